@@ -1,8 +1,9 @@
--- The names that a parse of words without a hyphen at their beginning gives for `clean`.
-use Rattle.std.proofs.Common.{◌≡◌, ◌∙◌, ◌≤◌, ◌<◌, ◌==◌, ◌++◌, ℕ, ap, ap₂, subst, sym, false, refl, arith, List, [], ◌∷◌, length, Some, None, codes, append-nil, append_assoc, nat_lt}
+-- What a parse of words without a hyphen at their beginning gives for `clean`.
+use Rattle.std.proofs.Common.{◌≡◌, ◌∙◌, ◌≤◌, ◌<◌, ◌==◌, ◌++◌, ℕ, ap, ap₂, subst, sym, true, false, refl, arith, List, [], ◌∷◌, length, Some, None, codes, append-nil, append_assoc, nat_lt}
+use Rattle.std.proofs.lemmas.Bool.{lt-ltb}
 use Rattle.std.proofs.lemmas.Bool.Decides.{nat_tests}
 use Rattle.std.specs.List.{fold}
-use Rattle.clap.specs.Words.{Text, all_of, IsAmong, Kinds}
+use Rattle.clap.specs.Words.{Text, IsAmong, Kinds}
 use Rattle.clap.specs.Lexer.{usize_max}
 use Rattle.clap.specs.Simple.{Shape}
 use Rattle.clap.specs.Walk.{Held, Walk, finished, positional, settled}
@@ -10,7 +11,6 @@ use Rattle.clap.specs.Kinds.{or_else, range_kinds, values_kinds}
 use Rattle.clap.specs.Faults.{check_fault, defaults_fault, settle_fault}
 use Rattle.clap.specs.declared.error.kind.ErrorKind.{ErrorKind}
 use Rattle.clap.specs.declared.builder.value_parser.ValueParser.TheVariants as vp
-use Rattle.xet_arguments.specs.Arguments.{some_of}
 use Rattle.xet_arguments.specs.internal.Commands.{clean_app}
 use Rattle.xet_arguments.proofs.Plain.{plain_end, plain_fault, plain_level, plain_walked}
 use Rattle.xet_arguments.proofs.Parses.{Reads, shape_of}
@@ -58,17 +58,14 @@ fits w ws most =
     (or_else (defaults_fault (settled clean_shape.rules h).rows clean_shape.rules) (check_fault clean_shape (finished clean_shape.rules h) false)) in
     ap₂ or_else (no_fault_after (w ∷ []) ws) (ap rest (end_of_words w ws)) ∙ ap (λ ks. or_else ks []) (settles w ws most)
 
-rows_of_words : (w : Text) (ws : List Text) → all_of (codes "name") (finished clean_shape.rules (plain_end clean_shape (w ∷ ws))) ≡ Some (w ∷ ws)
-rows_of_words w ws = ap (λ h. all_of (codes "name") (finished clean_shape.rules h)) (end_of_words w ws)
-
-accepted : (words : List Text) → plain_level clean_shape words ≡ [] → all_of (codes "name") (finished clean_shape.rules (plain_end clean_shape words)) ≡ some_of words
+accepted : (words : List Text) → plain_level clean_shape words ≡ [] → true ≡ nat_lt 0 (length words)
 unfolding defaults_fault
 accepted [] e = cc
-accepted (w ∷ ws) e = rows_of_words w ws
+accepted (w ∷ ws) e = sym (lt-ltb 0 (length (w ∷ ws)) (omega arith))
 
-rejected : (words : List Text) → length words ≤ usize_max → (k : ErrorKind) → IsAmong k (plain_level clean_shape words) → None ≡ some_of words
+rejected : (words : List Text) → length words ≤ usize_max → (k : ErrorKind) → IsAmong k (plain_level clean_shape words) → false ≡ nat_lt 0 (length words)
 rejected [] most k h = refl
 rejected (w ∷ ws) most k h = let bad : ⊥ = subst (IsAmong k) (fits w ws most) h in absurd bad
 
-pub clean_reads : (words : List Text) → length words ≤ usize_max → Reads clean_app words (all_of (codes "name")) None (some_of words)
+pub clean_reads : (words : List Text) → length words ≤ usize_max → Reads clean_app words (λ _. true) false (nat_lt 0 (length words))
 clean_reads words most = record { alone_is = refl; all_are_arguments = refl; accepted = accepted words; rejected = rejected words most }

@@ -25,11 +25,6 @@ abbrev pub three_of : List (List ℕ) → Option (List ℕ × List ℕ × List �
 three_of (a ∷ b ∷ c ∷ []) = Some (a, b, c)
 three_of _ = None
 
--- the words, if there is at least one
-abbrev pub some_of : List (List ℕ) → Option (List (List ℕ))
-some_of [] = None
-some_of (word ∷ words) = Some (word ∷ words)
-
 -- TARGET and GEAR, and WORKERS if it is there
 abbrev pub pack_texts : PackArguments → List ℕ × List ℕ × Option (List ℕ)
 pack_texts arguments = (arguments.target.now, arguments.gear.now, option_map (λ word. word.now) arguments.workers)

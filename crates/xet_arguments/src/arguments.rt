@@ -1,10 +1,9 @@
 //! The arguments of each command. The only error is out of memory.
 
-ghost use Rattle.std.specs.Prelude.{◌≡◌, ◌≤◌, ◌==◌, IfOk, codes, false, length, map, option_map, string_bytes};
+ghost use Rattle.std.specs.Prelude.{◌≡◌, ◌≤◌, ◌==◌, IfOk, codes, false, length, map, nat_lt, option_map, string_bytes};
 ghost use Rattle.std.specs.List.{list_any};
 ghost use Rattle.clap.specs.Lexer.{usize_max};
-ghost use Rattle.clap.specs.Words.{found_of, matched_of, raw_values};
-ghost use Rattle.xet_arguments.specs.Arguments.{is_option, make_texts, pack_texts, read_texts, some_of, three_of, two_of, two_or_three_of};
+ghost use Rattle.xet_arguments.specs.Arguments.{is_option, make_texts, pack_texts, read_texts, three_of, two_of, two_or_three_of};
 ghost use Rattle.xet_arguments.specs.internal.Commands.{all_three, both, both_with, value_of};
 
 use crate::commands::{bare_command, clean_command, make_command, pack_command, read_command};
@@ -111,28 +110,17 @@ pub fn read_arguments<'a>(alloc: Global, words: &'a [String]) -> Parsed<ReadArgu
     Ok(read_values(&found))
 }
 
-/// `clean NAME..`: the names; none if there are no words.
-pub fn clean_arguments<'a>(alloc: Global, words: &'a [String]) -> Parsed<Vec<&'a str>>
+/// `clean NAME..`, whose names are the words: whether there are words.
+pub fn some_arguments(alloc: Global, words: &[String]) -> Result<bool, AllocError>
     requires { list_any is_option (map string_bytes words.now) ≡ false }
-    ensures { IfOk result (λ found. option_map (λ names. map (λ name. name.now) names.items) found
-        ≡ some_of (map string_bytes words.now)) }
+    ensures { IfOk result (λ some. some ≡ nat_lt 0 (length words.now)) }
 {
     note_count(words);
     let command = clean_command(alloc)?;
     let found = matches_of_words(command, words)?;
     match found {
-        Some(matches) => clean_values(alloc, &matches),
-        None => Ok(None),
-    }
-}
-
-fn clean_values<'a>(alloc: Global, matches: &ArgMatches<'a>) -> Parsed<Vec<&'a str>>
-    ensures { IfOk result (λ found. option_map (λ names. map (λ name. name.now) names.items) found
-        ≡ option_map raw_values (matched_of (found_of matches.now) (codes "name"))) }
-{
-    match matches.get_raw("name") {
-        Some(values) => Ok(Some(values.to_vec(alloc)?)),
-        None => Ok(None),
+        Some(_matches) => Ok(true),
+        None => Ok(false),
     }
 }
 

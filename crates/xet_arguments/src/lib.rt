@@ -8,7 +8,7 @@ mod options;
 mod parsing;
 
 pub use arguments::{
-    MakeArguments, PackArguments, ReadArguments, clean_arguments, make_arguments, no_arguments,
-    pack_arguments, read_arguments,
+    MakeArguments, PackArguments, ReadArguments, make_arguments, no_arguments, pack_arguments,
+    read_arguments, some_arguments,
 };
 pub use options::has_option;

@@ -1,10 +1,11 @@
 -- What a batch of chunks leaves of the maker of steps.
-use Rattle.std.proofs.Common.{◌≡◌, ◌∙◌, ℕ, ◌+◌, ◌≤◌, ◌<◌, Bool, true, false, ◌==◌, List, [], ◌∷◌, length, map, refl, sym, ap, true≢false, if◌then◌else◌, arith}
-use Rattle.std.proofs.lemmas.List.{length-map}
+use Rattle.std.proofs.Common.{◌≡◌, ◌∙◌, ℕ, ◌+◌, ◌≤◌, ◌<◌, Bool, true, false, ◌==◌, List, [], ◌∷◌, length, map, refl, sym, ap, subst, true≢false, if◌then◌else◌, arith}
+use Rattle.std.proofs.lemmas.List.{append_cancel_left, length-map}
+use Rattle.std.specs.List.{AllByRecursion}
 use Rattle.xet_choices.specs.Calls.{queries_of}
 use Rattle.xet_choices.specs.theorems.Calls.{queries_of-append}
 use Rattle.xet_dedup.specs.Adding.{AddsCalls, StopsCalls}
-use Rattle.xet_dedup_queries.specs.Counting.{entries_at_most}
+use Rattle.xet_dedup_queries.specs.Counting.{HasNext, entries_at_most}
 use Rattle.xet_dedup_queries.specs.theorems.Counting.{entries_at_most-append}
 use Rattle.xet_dedup_queries.specs.declared.places.DedupError.{DedupError}
 use Rattle.xet_dedup_queries.specs.declared.places.DedupError.TheVariants.{Interface, OutOfMemory}
@@ -15,6 +16,7 @@ use Rattle.xet_xorb_chunk.specs.Chunks.{chunk_leaf}
 use Rattle.xet_xorb_chunk.specs.declared.chunk.Chunk.{Chunk}
 use Rattle.xet_clean.specs.Cleaner.{IsBatchOf, StopsInBatch}
 use Rattle.xet_clean.specs.Errors.{store_error}
+use Rattle.xet_clean.specs.theorems.Adding.{asking_calls}
 
 failed_few : (old new : Bool) → (if new then (if old then 0 else 2) else 0) ≤ 2
 failed_few true true = omega arith
@@ -38,6 +40,7 @@ module _ (leaves : List (List ℕ × ℕ)) (old new : Holder) (asked : queries_o
   pub stops_in_batch : (before : List (List ℕ × ℕ)) → StopsCalls before leaves (calls_of old) (calls_of new) → FollowsAsking old new → 0 < length leaves → StopsInBatch leaves (length before) old new
   stops_in_batch before s f some = record {
     follows = f.follows;
+    nexts = subst (AllByRecursion HasNext) (sym (asking_calls old new f ∙ append_cancel_left (calls_of old) f.calls s.added (sym f.added ∙ s.grown))) s.nexts;
     few =
         omega (
           arith,

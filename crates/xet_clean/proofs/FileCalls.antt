@@ -8,11 +8,12 @@ use Rattle.xet_choices.specs.theorems.Calls.{queries_of-append}
 use Rattle.xet_cut.specs.declared.limits.LimitSettings.{LimitSettings}
 use Rattle.xet_dedup_queries.specs.Counting.{HasNext, LandsIn, entries_at_most}
 use Rattle.xet_dedup_queries.specs.theorems.Counting.{entries_at_most-append, lands_in-append}
-use Rattle.xet_steps.specs.Holders.{Follows, FollowsAsking, Holder, calls_of}
+use Rattle.xet_steps.specs.Holders.{Follows, FollowsAsking, Holder, calls_in, calls_of}
 use Rattle.xet_steps.specs.theorems.Following.{asking_then}
 use Rattle.xet_clean.specs.Files.{leaves_in}
 use Rattle.xet_clean.specs.Planning.{IsFew}
 use Rattle.xet_clean.specs.Cleaner.{IsBatchOf, StopsInBatch}
+use Rattle.xet_clean.specs.theorems.Adding.{asking_calls, calls_both}
 
 -- ---- what is seen
 
@@ -76,6 +77,7 @@ calls_few start now leaves block c = omega (arith, c.few, c.asked, c.follows.few
 pub few_still : (start now : Holder) (leaves block : List (List ℕ × ℕ)) (bytes : List ℕ) → HasCalls start now leaves block → length leaves ≤ length (leaves_in now.limits bytes) → IsFew start now bytes
 few_still start now leaves block bytes c count = record {
   follows = c.follows;
+  nexts = subst (AllByRecursion HasNext) (sym (asking_calls start now c.follows)) c.nexts;
   few = omega (arith, calls_few start now leaves block c, count);
 }
 
@@ -84,8 +86,12 @@ pub few_stopped : (start old new : Holder) (leaves more block : List (List ℕ �
     → length leaves + length more ≤ length (leaves_in old.limits bytes) → IsFew start new bytes
 few_stopped start old new leaves more block bytes c f s count =
     let follows : FollowsAsking start new = asking_then start old new c.follows f in
+    let first : List Call = calls_in c.follows.follows.own in
+    let calls : calls_in follows.follows.own ≡ first ++ calls_in s.follows.own = calls_both start old new c.follows.follows s.follows follows.follows in
     record {
       follows = follows;
+      nexts = subst (AllByRecursion HasNext) (sym calls)
+          (all_both HasNext first (calls_in s.follows.own) (subst (AllByRecursion HasNext) (sym (asking_calls start old c.follows)) c.nexts) s.nexts);
       few =
           omega (
             arith,

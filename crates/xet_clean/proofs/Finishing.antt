@@ -1,11 +1,13 @@
 -- A file whose deduplication has ended.
-use Rattle.std.proofs.Common.{◌≡◌, ◌∙◌, ℕ, List, Option, length, ap, arith}
+use Rattle.std.proofs.Common.{◌≡◌, ◌∙◌, ℕ, List, Option, length, sym, ap, subst, arith}
+use Rattle.std.specs.List.{AllByRecursion}
 use Rattle.xet_aggregate.specs.Aggregate.{Aggregate, IsAggregate, single}
 use Rattle.xet_aggregate.specs.declared.metrics.DeduplicationMetrics.{DeduplicationMetrics}
 use Rattle.xet_choices.specs.declared.choice.Choice.{Choice}
 use Rattle.xet_cut.specs.declared.limits.LimitSettings.{LimitSettings}
 use Rattle.xet_dedup.specs.Deduping.{metrics_of, open_indices}
 use Rattle.xet_dedup.specs.Records.{file_record}
+use Rattle.xet_dedup_queries.specs.Counting.{HasNext}
 use Rattle.xet_file_plan.specs.Moves.{PlanState}
 use Rattle.xet_hash.specs.Merkle.{file_hash}
 use Rattle.xet_store.specs.declared.info.XetFileInfo.{XetFileInfo}
@@ -13,6 +15,7 @@ use Rattle.xet_steps.specs.Holders.{Holder}
 use Rattle.xet_clean.specs.Files.{leaves_in}
 use Rattle.xet_clean.specs.Planning.{IsFew, IsFinished, IsPlanned}
 use Rattle.xet_clean.specs.Policies.{info_with}
+use Rattle.xet_clean.specs.theorems.Adding.{asking_calls}
 
 -- a pointer record
 abbrev pub pointer : List ℕ → ℕ → Option (List ℕ) → XetFileInfo
@@ -38,4 +41,8 @@ finished_file start now id bytes plan info metrics choices rest digest global pl
 
 -- the entries of a file that was planned are few
 pub planned_few : (start now : Holder) (bytes : List ℕ) (plan : PlanState) → IsPlanned start now bytes plan → IsFew start now bytes
-planned_few start now bytes plan p = record { follows = p.follows; few = omega (arith, p.few, ap length p.leaves) }
+planned_few start now bytes plan p = record {
+  follows = p.follows;
+  nexts = subst (AllByRecursion HasNext) (sym (asking_calls start now p.follows)) p.nexts;
+  few = omega (arith, p.few, ap length p.leaves);
+}

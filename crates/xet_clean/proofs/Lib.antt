@@ -16,6 +16,7 @@ mod Reading
 mod Stopping
 mod Unclosed
 mod Looping
+mod Looped
 mod Promising
 mod Turning
 mod Parting

@@ -1,16 +1,18 @@
 -- The loop over the sources: what was made of the first, and what is known where it ends.
 use Rattle.std.proofs.Common.{◌≡◌, ◌∙◌, inr, ℕ, suc, ◌+◌, ◌*◌, ◌≤◌, ◌<◌, Bool, true, false, List, [], ◌∷◌, ◌++◌, length, map, take, drop, get_or, set, refl, sym, ap, subst, append-nil, length-append, append_assoc, arith}
-use Rattle.std.proofs.lemmas.List.{length-map, nil_from_length, take_at}
+use Rattle.std.proofs.lemmas.List.{length-map, take_at}
 use Rattle.std.proofs.lemmas.List.Sums.{sum_by-append, sum_by-cons}
 use Rattle.std.specs.List.{AllByRecursion, sum_by}
 use Rattle.std.specs.Prelude.{Err, IsOkUnless, Ok, Result}
 use Rattle.xet_aggregate.specs.Aggregate.{Aggregate, empty}
 use Rattle.xet_aggregate.specs.Metrics.{zeros}
 use Rattle.xet_aggregate.specs.declared.metrics.DeduplicationMetrics.{DeduplicationMetrics}
-use Rattle.xet_base.specs.theorems.Elements.{all_more, all_push}
+use Rattle.xet_base.specs.theorems.Elements.{all_both, all_more, all_push}
+use Rattle.xet_choices.specs.Calls.{Call}
 use Rattle.xet_choices.specs.declared.choice.Choice.{Choice}
 use Rattle.xet_cut.specs.Chunking.{chunking}
 use Rattle.xet_cut.specs.declared.limits.LimitSettings.{LimitSettings}
+use Rattle.xet_dedup_queries.specs.Counting.{HasNext as Further}
 use Rattle.xet_file_plan.specs.Moves.{PlanState}
 use Rattle.xet_hash.specs.Merkle.{leaf_of}
 use Rattle.xet_hash.specs.declared.error.Place.TheVariants as place
@@ -20,19 +22,22 @@ use Rattle.xet_hash.specs.declared.error.StoreError.TheVariants.{Io, MalformedDa
 use Rattle.xet_hash.specs.declared.error.What.TheVariants as what
 use Rattle.xet_history.specs.declared.entry.Entry.{Entry}
 use Rattle.xet_io.specs.Faults.{Rose}
-use Rattle.xet_store.specs.Cleaning.{AreTaken, EachTold, FailedAt, IsLongAt, Later, RoseAt}
+use Rattle.xet_store.specs.Cleaning.{AreTaken, FailedAt, IsLongAt, Later, RoseAt}
 use Rattle.xet_store.specs.declared.info.XetFileInfo.{XetFileInfo}
-use Rattle.xet_steps.specs.Holders.{Follows, FollowsAsking, Holder}
-use Rattle.xet_steps.specs.theorems.Following.{follows_nothing, follows_then}
+use Rattle.xet_steps.specs.Holders.{Follows, FollowsAsking, Holder, calls_in}
+use Rattle.xet_steps.specs.theorems.Following.{calls_in-append, follows_nothing, follows_then}
+use Rattle.xet_xorb_chunk.specs.Chunks.{chunk_leaf}
 use Rattle.xet_clean.specs.Planning.{IsFew, IsPlanned, IsWithin}
-use Rattle.xet_clean.specs.Closing.{Closes, IsAtMost, IsUnclosed, filled_files, recorded_in}
-use Rattle.xet_clean.specs.Sources.{AreDone, AreRead, HasCleaned, IsCutShort, IsDone, IsTakenFrom, IsLoopError, IsSourceError, IsUnclosedFor}
-use Rattle.xet_clean.specs.Working.{EndsWith, IsWorking, Planned, WasPlanned, Waits}
+use Rattle.xet_clean.specs.Cleaning.{ClosesLast}
+use Rattle.xet_clean.specs.Closing.{AnyCalls, IsAtMost, IsUnclosed, RegistersAtMost, filled_files, recorded_in}
+use Rattle.xet_clean.specs.Sources.{AreDone, AreRead, HasCleaned, IsCutShort, IsDone, IsTakenFrom, IsLoopError, IsSourceError, IsShort, IsUnclosedFor}
+use Rattle.xet_clean.specs.Working.{IsWorking, Planned, WasPlanned, Waits}
 use Rattle.xet_shard_format.specs.declared.record.MDBFileInfo.{MDBFileInfo}
-use Rattle.xet_clean.specs.theorems.Adding.{none_recorded, recorded_in-append}
+use Rattle.xet_clean.specs.theorems.Adding.{asking_calls, first_weaker, none_recorded, recorded_in-append}
 use Rattle.xet_clean.specs.theorems.Closing.{error_earlier}
 use Rattle.xet_clean.specs.theorems.Hashes.{chunks_sum}
 use Rattle.xet_clean.specs.theorems.Keeping.{seen_follows, waits_seen, was_planned_follows}
+use Rattle.xet_clean.specs.theorems.Nexts.{closes_none, closes_then, last_closes, lands_nexts}
 use Rattle.xet_clean.proofs.Stopping.{HasRecorded, first_recorded}
 use Rattle.xet_clean.specs.theorems.Turns.{AreFrom, at_length, drop_past, done_counts, done_push, done_read, done_told, from_then, later_all, long_at, rose_at, set_at_length, taken_all, taken_each, tell_all, untouched}
 use Rattle.xet_clean.specs.declared.policy.Sha256Policy.{Sha256Policy}
@@ -74,16 +79,16 @@ module _ {S : Type 0} (tells : S → Bool) (left : S → List ℕ) (faults : S �
   }
 
   -- Why the loop ended, and what is known then.
-  pub record IsStopped (sources now : List S) (start h : Holder) (e : StoreError) : Type 0 where
+  pub record IsStopped (last : List (List ℕ × ℕ)) (sources now : List S) (start h : Holder) (e : StoreError) : Type 0 where
     pub follows : Follows start h
-    pub short : IsCutShort policy tells left sources now start h e
+    pub short : IsCutShort last policy tells left sources now start h e
     pub tell : map tells now ≡ map tells sources
     pub taken : AreTaken tells left sources now
     pub later : Later faults sources now
     pub reason : IsLoopError tells left faults sources now start h e
 
   -- nothing was done, for want of memory
-  pub stopped_before : (sources : List S) (start : Holder) → IsStopped sources sources start start OutOfMemory
+  pub stopped_before : (sources : List S) (start : Holder) → IsStopped [] sources sources start start OutOfMemory
   unfolding follows_nothing
   stopped_before sources start =
       let files : List (List ℕ) = map (λ (s : S). []) sources in
@@ -102,6 +107,7 @@ module _ {S : Type 0} (tells : S → Bool) (left : S → List ℕ) (faults : S �
           count = 0;
           recorded = omega arith;
           records = refl;
+          registers = closes_none [] tt;
         };
         tell = refl;
         taken = taken_all tells left faults sources sources files all;
@@ -109,11 +115,11 @@ module _ {S : Type 0} (tells : S → Bool) (left : S → List ℕ) (faults : S �
         reason = tt;
       }
 
-  pub short_before : {T : Type 0} (sources : List S) (start : Holder) (r : Result T StoreError) (e : StoreError) → r ≡ Err e → IsOkUnless r OutOfMemory → IsCutShort policy tells left sources sources start start e
+  pub short_before : {T : Type 0} (sources : List S) (start : Holder) (r : Result T StoreError) (e : StoreError) → r ≡ Err e → IsOkUnless r OutOfMemory → IsShort policy tells left sources sources start start e
   short_before sources start (Ok x) e is memory = absurd (cc is)
   short_before sources start (Err x) e is memory =
       let same : x ≡ e = cc is in
-      subst (IsCutShort policy tells left sources sources start start) (sym memory ∙ same) (stopped_before sources start).short
+      subst (IsShort policy tells left sources sources start start) (sym memory ∙ same) ([], (stopped_before sources start).short)
 
   module _ (sources now : List S) (n : ℕ) (start h : Holder) (infos : List XetFileInfo) (choices : List (List Choice)) (metrics : DeduplicationMetrics) (a : Aggregate)
       (l : IsLoop sources now n start h infos choices metrics a) where
@@ -167,9 +173,13 @@ module _ {S : Type 0} (tells : S → Bool) (left : S → List ℕ) (faults : S �
           length-map l.files (λ (f : Planned). f.bytes),
         )
 
+    -- each registration had further chunks
+    nexts_old : AllByRecursion Further (calls_in w.follows.own)
+    nexts_old = lands_nexts (map chunk_leaf a.chunks) (calls_in w.follows.own) w.lands
+
     -- which records waited
-    unclosed_for : (first last : Holder) (next_leaves : List (List ℕ × ℕ)) (e : StoreError) → Follows h first → IsUnclosed a next_leaves first last e → IsUnclosedFor tells left sources start last e
-    unclosed_for first last next_leaves e later u =
+    unclosed_for : (Are : List Call → Type 0) (first last : Holder) (next_leaves : List (List ℕ × ℕ)) (e : StoreError) → Follows h first → IsUnclosed Are a next_leaves first last e → IsUnclosedFor tells left sources start last e
+    unclosed_for Are first last next_leaves e later u =
         let limits_same : first.limits ≡ h.limits = ap (λ (x : Holder). x.limits) later.is in
         record {
           done = l.done;
@@ -185,7 +195,7 @@ module _ {S : Type 0} (tells : S → Bool) (left : S → List ℕ) (faults : S �
           within = subst (λ (s : LimitSettings). IsWithin s a.chunks) (sym limits_same) w.within;
           waits = all_more (λ p. Waits h a.chunks l.files p.0) (λ p. Waits first a.chunks l.files p.0) a.files (λ p waits. waits_seen h first (seen_follows h first later) a.chunks l.files p.0 waits) w.waits;
           next = next_leaves;
-          refused = u;
+          refused = (first_weaker Are AnyCalls (filled_files a) first last (λ calls are. tt) u.0, u.1);
         }
 
     -- ---- the next source
@@ -281,8 +291,8 @@ module _ {S : Type 0} (tells : S → Bool) (left : S → List ℕ) (faults : S �
         source_reason (TooLarge (what.Source i)) asking is =
             (long_here i is.0 (subst (λ (s : LimitSettings). tells next.source ≡ true → s.max_source_bytes < length (left next.source)) (ap (λ (x : Holder). x.limits) w.follows.is) is.1), is.2 ∙ w.going)
         source_reason (MalformedData OtherFileHash) asking is =
-            unclosed_for h h' [] (MalformedData OtherFileHash) (follows_nothing h)
-            ((0, record { follows = asking.follows; are = none_recorded asking.follows.own asking.none }), inr is)
+            unclosed_for AnyCalls h h' [] (MalformedData OtherFileHash) (follows_nothing h)
+            ((0, record { follows = asking.follows; are = none_recorded asking.follows.own asking.none }, tt), inr is)
         source_reason e asking is = error_earlier start h h' w.follows e is
 
         source_failed : (e : StoreError) → IsSourceError n (tells next.source) (left next.source) (faults next.source) (faults t) h h' e → FailedAt e n
@@ -291,7 +301,7 @@ module _ {S : Type 0} (tells : S → Bool) (left : S → List ℕ) (faults : S �
         source_failed e is = tt
 
         pub stopped_at_source : (e : StoreError) → (asking : FollowsAsking h h') → IsFew h h' bytes → IsSourceError n (tells next.source) (left next.source) (faults next.source) (faults t) h h' e
-            → IsStopped sources (set now n t) start h' e
+            → IsStopped [] sources (set now n t) start h' e
         unfolding follows_then
         stopped_at_source e asking few is =
             let all = from_all t bytes from in
@@ -322,6 +332,8 @@ module _ {S : Type 0} (tells : S → Bool) (left : S → List ℕ) (faults : S �
                 count = recorded.count;
                 recorded = recorded.few;
                 records = recorded.are;
+                registers = subst (ClosesLast []) (sym (calls_in-append w.follows.own few.follows.follows.own))
+                    (closes_none (calls_in w.follows.own ++ calls_in few.follows.follows.own) (all_both Further (calls_in w.follows.own) (calls_in few.follows.follows.own) nexts_old few.nexts));
               };
               tell = tell_all tells left faults sources (set now n t) (map (λ (f : Planned). f.bytes) l.files ++ rest) all;
               taken = taken_all tells left faults sources (set now n t) (map (λ (f : Planned). f.bytes) l.files ++ rest) all;
@@ -331,23 +343,23 @@ module _ {S : Type 0} (tells : S → Bool) (left : S → List ℕ) (faults : S �
 
     -- ---- the aggregate was not closed
 
-    unclosed_reason : (after : List S) (first last : Holder) (next_leaves : List (List ℕ × ℕ)) (e : StoreError) → Follows h first → IsUnclosed a next_leaves first last e
+    unclosed_reason : (Are : List Call → Type 0) (after : List S) (first last : Holder) (next_leaves : List (List ℕ × ℕ)) (e : StoreError) → Follows h first → IsUnclosed Are a next_leaves first last e
         → IsLoopError tells left faults sources after start last e
-    unclosed_reason after first last next_leaves (MalformedData OtherFileHash) later u =
-        unclosed_for first last next_leaves (MalformedData OtherFileHash) later u
-    unclosed_reason after first last next_leaves (Io (place.Source i)) later u = absurd (unclosed_since a next_leaves start first last (Io (place.Source i)) (follows_then start h first w.follows later) (λ same. cc same) u)
-    unclosed_reason after first last next_leaves (TooLarge (what.Source i)) later u = absurd (unclosed_since a next_leaves start first last (TooLarge (what.Source i)) (follows_then start h first w.follows later) (λ same. cc same) u)
-    unclosed_reason after first last next_leaves e later u = unclosed_since a next_leaves start first last e (follows_then start h first w.follows later) (λ same. cc same) u
+    unclosed_reason Are after first last next_leaves (MalformedData OtherFileHash) later u =
+        unclosed_for Are first last next_leaves (MalformedData OtherFileHash) later u
+    unclosed_reason Are after first last next_leaves (Io (place.Source i)) later u = absurd (unclosed_since Are a next_leaves start first last (Io (place.Source i)) (follows_then start h first w.follows later) (λ same. cc same) u)
+    unclosed_reason Are after first last next_leaves (TooLarge (what.Source i)) later u = absurd (unclosed_since Are a next_leaves start first last (TooLarge (what.Source i)) (follows_then start h first w.follows later) (λ same. cc same) u)
+    unclosed_reason Are after first last next_leaves e later u = unclosed_since Are a next_leaves start first last e (follows_then start h first w.follows later) (λ same. cc same) u
 
     -- such an error names no source
-    unclosed_failed : (first last : Holder) (next_leaves : List (List ℕ × ℕ)) (e : StoreError) → Follows h first → IsUnclosed a next_leaves first last e → FailedAt e n
-    unclosed_failed first last next_leaves (Io (place.Source i)) later u = absurd (unclosed_since a next_leaves start first last (Io (place.Source i)) (follows_then start h first w.follows later) (λ same. cc same) u)
-    unclosed_failed first last next_leaves (TooLarge (what.Source i)) later u = absurd (unclosed_since a next_leaves start first last (TooLarge (what.Source i)) (follows_then start h first w.follows later) (λ same. cc same) u)
-    unclosed_failed first last next_leaves e later u = tt
+    unclosed_failed : (Are : List Call → Type 0) (first last : Holder) (next_leaves : List (List ℕ × ℕ)) (e : StoreError) → Follows h first → IsUnclosed Are a next_leaves first last e → FailedAt e n
+    unclosed_failed Are first last next_leaves (Io (place.Source i)) later u = absurd (unclosed_since Are a next_leaves start first last (Io (place.Source i)) (follows_then start h first w.follows later) (λ same. cc same) u)
+    unclosed_failed Are first last next_leaves (TooLarge (what.Source i)) later u = absurd (unclosed_since Are a next_leaves start first last (TooLarge (what.Source i)) (follows_then start h first w.follows later) (λ same. cc same) u)
+    unclosed_failed Are first last next_leaves e later u = tt
 
     -- the file joined no aggregate
     pub stopped_at_keep : (next : HasNext) (t : S) (h' last : Holder) (bytes : List ℕ) (plan : PlanState) → IsTakenFrom tells left faults next.source t bytes → IsPlanned h h' bytes plan
-        → (next_leaves : List (List ℕ × ℕ)) (e : StoreError) → IsAtMost (2 * length a.chunks + 2 * length a.files) h' last → IsUnclosed a next_leaves h' last e → IsStopped sources (set now n t) start last e
+        → (next_leaves : List (List ℕ × ℕ)) (e : StoreError) → IsAtMost (2 * length a.chunks + 2 * length a.files) h' last → IsUnclosed (AllByRecursion Further) a next_leaves h' last e → IsStopped [] sources (set now n t) start last e
     unfolding follows_then
     stopped_at_keep next t h' last bytes plan from planned next_leaves e few u =
         let all = from_all next t bytes from in
@@ -358,6 +370,9 @@ module _ {S : Type 0} (tells : S → Bool) (left : S → List ℕ) (faults : S �
         let whole : Follows start last = follows_then start h last w.follows (follows_then h h' last p r) in
         let recorded = has_recorded rest (p.own ++ r.own) u.0.0
         (recorded_in-append p.own r.own ∙ ap (λ (x : List MDBFileInfo). x ++ recorded_in r.own) (none_recorded p.own planned.follows.none) ∙ u.0.1.are) in
+        let calls : calls_in (w.follows.own ++ (p.own ++ r.own)) ≡ calls_in w.follows.own ++ (calls_in p.own ++ calls_in r.own) =
+        calls_in-append w.follows.own (p.own ++ r.own) ∙ ap (λ (l : List Call). calls_in w.follows.own ++ l) (calls_in-append p.own r.own) in
+        let nexts_file : AllByRecursion Further (calls_in p.own) = subst (AllByRecursion Further) (sym (asking_calls h h' planned.follows)) planned.nexts in
         let limits_same : h'.limits ≡ start.limits = ap (λ (x : Holder). x.limits) p.is ∙ ap (λ (x : Holder). x.limits) w.follows.is in
         let one : length p.own ≤ 3 * length (chunking start.limits bytes) =
         omega (arith, planned.few, ap length planned.leaves, ap (λ (s : LimitSettings). length (chunking s bytes)) limits_same, length-map (chunking h'.limits bytes) leaf_of) in
@@ -382,28 +397,32 @@ module _ {S : Type 0} (tells : S → Bool) (left : S → List ℕ) (faults : S �
             );
             done = n;
             within = within_all;
-            failed = unclosed_failed h' last next_leaves e p u;
+            failed = unclosed_failed (AllByRecursion Further) h' last next_leaves e p u;
             read = read_first (set now n t) (t ∷ next.later) (set_next next t);
             untouched = rest_after (set now n t) (t ∷ next.later) (set_next next t) (ap (drop 1) (sym next.is));
             count = recorded.count;
             recorded = recorded.few;
             records = recorded.are;
+            registers = subst (ClosesLast []) (sym calls)
+                (closes_none (calls_in w.follows.own ++ (calls_in p.own ++ calls_in r.own))
+                (all_both Further (calls_in w.follows.own) (calls_in p.own ++ calls_in r.own) nexts_old (all_both Further (calls_in p.own) (calls_in r.own) nexts_file u.0.2)));
           };
           tell = tell_all tells left faults sources (set now n t) files all;
           taken = taken_all tells left faults sources (set now n t) files all;
           later = later_all tells left faults sources (set now n t) files all;
-          reason = unclosed_reason (set now n t) h' last next_leaves e p u;
+          reason = unclosed_reason (AllByRecursion Further) (set now n t) h' last next_leaves e p u;
         }
 
     -- what was taken of all sources where the loop ends
-    from_end : AreFrom tells left faults sources now (map (λ (f : Planned). f.bytes) l.files ++ map (λ (s : S). []) l.rest)
+    pub from_end : AreFrom tells left faults sources now (map (λ (f : Planned). f.bytes) l.files ++ map (λ (s : S). []) l.rest)
     from_end =
         subst (λ (ts : List S). AreFrom tells left faults sources ts (map (λ (f : Planned). f.bytes) l.files ++ map (λ (s : S). []) l.rest)) (sym l.now_is)
         (subst (λ (ss : List S). AreFrom tells left faults ss (l.made ++ l.rest) (map (λ (f : Planned). f.bytes) l.files ++ map (λ (s : S). []) l.rest)) (sym l.old_is)
         (from_then tells left faults start.limits.max_source_bytes l.done l.made l.files l.rest l.rest (map (λ (s : S). []) l.rest) l.are (untouched tells left faults l.rest)))
 
     -- the last aggregate was not closed
-    pub stopped_at_end : (last : Holder) (e : StoreError) → IsAtMost (2 * length a.chunks + 2 * length a.files) h last → IsUnclosed a [] h last e → IsStopped sources now start last e
+    pub stopped_at_end : (last : Holder) (e : StoreError) → IsAtMost (2 * length a.chunks + 2 * length a.files) h last → (u : IsUnclosed (RegistersAtMost a []) a [] h last e)
+        → IsStopped (last_closes a (calls_in u.0.1.follows.own) u.0.2).0 sources now start last e
     unfolding follows_then
     stopped_at_end last e few u =
         let rest : List (List ℕ) = map (λ (s : S). []) l.rest in
@@ -411,6 +430,7 @@ module _ {S : Type 0} (tells : S → Bool) (left : S → List ℕ) (faults : S �
         let r : Follows h last = u.0.1.follows in
         let whole : Follows start last = follows_then start h last w.follows r in
         let recorded = has_recorded rest r.own u.0.0 u.0.1.are in
+        let closing = last_closes a (calls_in u.0.1.follows.own) u.0.2 in
         let more : length r.own ≤ 2 * length a.chunks + 2 * length a.files =
         omega (arith, few.few, ap (λ (x : Holder). length x.own) r.is, ap (λ (x : Holder). length x.own) few.follows.is, length-append h.own r.own, length-append h.own few.follows.own) in
         record {
@@ -421,60 +441,16 @@ module _ {S : Type 0} (tells : S → Bool) (left : S → List ℕ) (faults : S �
             few = (whole, few_with rest (length (w.follows.own ++ r.own)) (omega (arith, few_old, more, length-append w.follows.own r.own)));
             done = n;
             within = within_all;
-            failed = unclosed_failed h last [] e (follows_nothing h) u;
+            failed = unclosed_failed (RegistersAtMost a []) h last [] e (follows_nothing h) u;
             read = read_first now l.rest l.now_is;
             untouched = rest_after now l.rest l.now_is refl;
             count = recorded.count;
             recorded = recorded.few;
             records = recorded.are;
+            registers = subst (ClosesLast closing.0) (sym (calls_in-append w.follows.own r.own)) (closes_then closing.0 (calls_in w.follows.own) (calls_in r.own) nexts_old closing.1);
           };
           tell = tell_all tells left faults sources now files from_end;
           taken = taken_all tells left faults sources now files from_end;
           later = later_all tells left faults sources now files from_end;
-          reason = unclosed_reason now h last [] e (follows_nothing h) u;
+          reason = unclosed_reason (RegistersAtMost a []) now h last [] e (follows_nothing h) u;
         }
-
-    -- ---- the loop ends after the last source
-
-    pub tell_end : map tells now ≡ map tells sources
-    tell_end = tell_all tells left faults sources now (map (λ (f : Planned). f.bytes) l.files ++ map (λ (s : S). []) l.rest) from_end
-
-    pub taken_end : AreTaken tells left sources now
-    taken_end = taken_all tells left faults sources now (map (λ (f : Planned). f.bytes) l.files ++ map (λ (s : S). []) l.rest) from_end
-
-    pub later_end : Later faults sources now
-    later_end = later_all tells left faults sources now (map (λ (f : Planned). f.bytes) l.files ++ map (λ (s : S). []) l.rest) from_end
-
-    module _ (all : n ≡ length sources) where
-      none_left : l.rest ≡ []
-      none_left = nil_from_length l.rest (omega (arith, all, ap length l.old_is, length-append l.done l.rest, counts.0))
-
-      all_done : sources ≡ l.done
-      all_done = l.old_is ∙ ap (λ (r : List S). l.done ++ r) none_left ∙ append-nil l.done
-
-      all_made : now ≡ l.made
-      all_made = l.now_is ∙ ap (λ (r : List S). l.made ++ r) none_left ∙ append-nil l.made
-
-      pub read_end : AreRead tells left start.limits.max_source_bytes sources now
-      read_end =
-          subst (λ (ts : List S). AreRead tells left start.limits.max_source_bytes sources ts) (sym all_made)
-          (subst (λ (ss : List S). AreRead tells left start.limits.max_source_bytes ss l.made) (sym all_done) (done_read tells left faults start.limits.max_source_bytes l.done l.made l.files l.are))
-
-      pub has_cleaned : HasCleaned policy tells left faults sources now start h infos choices metrics a
-      has_cleaned = record {
-        files = l.files;
-        are = subst (λ (ts : List S). AreDone tells left faults start.limits.max_source_bytes sources ts l.files) (sym all_made)
-            (subst (λ (ss : List S). AreDone tells left faults start.limits.max_source_bytes ss l.made l.files) (sym all_done) l.are);
-        policies = l.policies;
-        working = w;
-      }
-
-      pub ends_with : (last : Holder) → Closes a [] h last → EndsWith policy tells left sources start last l.files infos choices metrics
-      ends_with last closes = record {
-        told = subst (λ (ss : List S). EachTold tells left (λ bytes f. f.bytes ≡ bytes) ss l.files) (sym all_done) (done_told tells left faults start.limits.max_source_bytes l.done l.made l.files l.are);
-        policies = l.policies;
-        before = h;
-        aggregate = a;
-        working = w;
-        closes = closes;
-      }

@@ -1,41 +1,43 @@
 -- Parts are merged in turn, and what is left is closed.
-use Rattle.std.proofs.Common.{◌≡◌, ◌∙◌, inl, inr, ℕ, ◌+◌, ◌*◌, ◌^◌, ◌<◌, ◌≤◌, true, ◌&&◌, List, [], ◌∷◌, ◌++◌, drop, length, map, nat_le, refl, sym, ap, subst, append_assoc, length-append, arith}
+use Rattle.std.proofs.Common.{◌≡◌, ◌∙◌, inl, inr, ℕ, ◌+◌, ◌*◌, ◌^◌, ◌<◌, ◌≤◌, true, ◌&&◌, List, [], ◌∷◌, ◌++◌, drop, length, map, take, nat_le, refl, sym, ap, subst, append_assoc, length-append, arith}
 use Rattle.std.proofs.lemmas.Bool.Decides.{nat_tests}
-use Rattle.std.proofs.lemmas.List.{append-nil, length-map}
+use Rattle.std.proofs.lemmas.List.{append-nil, length-map, take-append-drop}
 use Rattle.std.proofs.lemmas.List.Sums.{sum_by-append, sum_by-cons}
 use Rattle.std.specs.List.{AllByRecursion, sum_by}
-use Rattle.std.specs.Prelude.{slice_index_or}
+use Rattle.std.specs.Prelude.{Any, slice_index_or}
 use Rattle.xet_aggregate.specs.Aggregate.{Aggregate, IsAggregate, Pending, empty, fits}
 use Rattle.xet_aggregate.specs.Metrics.{zeros}
 use Rattle.xet_aggregate.specs.declared.metrics.DeduplicationMetrics.{DeduplicationMetrics}
 use Rattle.xet_aggregate.specs.theorems.Merging.{empty-merged}
-use Rattle.xet_base.specs.theorems.Elements.{all_more}
+use Rattle.xet_base.specs.theorems.Elements.{all_back, all_both, all_more, all_prefix}
 use Rattle.xet_choices.specs.Calls.{Call, queries_of, registered_chunks}
 use Rattle.xet_choices.specs.declared.choice.Choice.{Choice}
 use Rattle.xet_choices.specs.theorems.Calls.{queries_of-append, registered_chunks-append}
 use Rattle.xet_cut.specs.Limits.{AreInRange}
 use Rattle.xet_cut.specs.declared.limits.LimitSettings.{LimitSettings}
 use Rattle.xet_dedup.specs.Deduping.{metrics_of_both}
+use Rattle.xet_dedup_queries.specs.Counting.{HasNext}
 use Rattle.xet_hash.specs.declared.error.StoreError.{StoreError}
 use Rattle.xet_shard_format.specs.declared.record.MDBFileInfo.{MDBFileInfo}
-use Rattle.xet_steps.specs.Holders.{Holder, calls_in}
+use Rattle.xet_steps.specs.Holders.{Follows, Holder, calls_in}
 use Rattle.xet_steps.specs.theorems.Following.{calls_in-append, follows_nothing, follows_then}
 use Rattle.xet_store.specs.declared.info.XetFileInfo.{XetFileInfo}
 use Rattle.xet_xorb_chunk.specs.Chunks.{chunk_leaf, total}
-use Rattle.xet_clean.specs.Cleaning.{RegistersPart, close_of}
-use Rattle.xet_clean.specs.Closing.{Closes, HaveForm, IsAtMost, IsUnclosed, Joins, filled_files, recorded_in}
+use Rattle.xet_clean.specs.Cleaning.{ClosesLast, RegistersPart, close_of}
+use Rattle.xet_clean.specs.Closing.{AnyCalls, Closes, HaveForm, IsAtMost, IsUnclosed, Joins, filled_files, recorded_in}
 use Rattle.xet_clean.specs.Merging.{AreHeld, EachRecorded, IsPartOf, IsUnmerged, MayMerge, MayMergeAll, MergesAll, Part, files_of}
 use Rattle.xet_clean.specs.Planning.{IsWithin}
 use Rattle.xet_clean.specs.Policies.{info_by}
-use Rattle.xet_clean.specs.Working.{Planned, Waits}
+use Rattle.xet_clean.specs.Working.{IsRecordOf, Planned, Waits}
 use Rattle.xet_clean.specs.declared.working.Working.{Working}
 use Rattle.xet_clean.specs.internal.Merging.{IsLater, IsMerged, IsMerging}
 use Rattle.xet_clean.specs.internal.Sums.{HasRoom}
-use Rattle.xet_clean.specs.theorems.Adding.{Adds, adds_closed_last, recorded_in-append}
+use Rattle.xet_clean.specs.theorems.Adding.{Adds, adds_closed_last, calls_both, first_weaker, recorded_in-append}
 use Rattle.xet_clean.specs.theorems.Ending.{last_chunks}
-use Rattle.xet_clean.specs.theorems.Keeping.{any_last, any_left, limits_follow}
+use Rattle.xet_clean.specs.theorems.Keeping.{any_last, any_left, limits_follow, own_then}
+use Rattle.xet_clean.specs.theorems.Nexts.{closes_then, lands_nexts}
 use Rattle.xet_clean.proofs.Taking.{IsTaken, merged_more, part_small, part_within, taken_of}
-use Rattle.xet_clean.proofs.Parting.{IsNext, each_filled, files_append, files_push, may_follows, may_next, may_none, most_of}
+use Rattle.xet_clean.proofs.Parting.{IsNext, each_filled, each_one, files_append, files_push, may_follows, may_next, may_none, most_of}
 use Rattle.xet_clean.specs.theorems.Records.{waits_among_more}
 use Rattle.xet_clean.specs.theorems.Sums.{small_room, small_zeros, sum_again}
 
@@ -126,9 +128,33 @@ module _ (ps : List Part) (rest : List Working) (start now : Holder) (infos : Li
   pub merging_here : IsAggregate a × IsWithin now.limits a.chunks × HaveForm a.files
   merging_here = (is.merged.aggregate, is.merged.within, is.merged.forms)
 
-  pub unmerged : (next : List (List ℕ × ℕ)) (new : Holder) (e : StoreError) → IsUnclosed a next now new e → IsUnmerged ps start new e
-  unmerged next new e unclosed =
+  -- each record was made of a file of one of the parts
+  unmerged_records : (k : ℕ) → AllByRecursion (λ r. Any (λ f. IsRecordOf f r) (files_of ps)) (recorded_in is.merged.follows.own ++ take k (filled_files a))
+  unmerged_records k =
+      let own : List MDBFileInfo = recorded_in is.merged.follows.own in
+      let one : MDBFileInfo → Type 0 = λ r. Any (λ f. IsRecordOf f r) (files_of ps) in
+      let order : files_of ps ≡ files_of is.done ++ files_of is.later = ap files_of is.order ∙ files_append is.done is.later in
+      let each : AllByRecursion (λ r. Any (λ f. IsRecordOf f r) (files_of is.done)) (own ++ filled_files a) = each_one is.done (own ++ filled_files a) (each_filled a is.done own is.merged.records) in
+      let all : AllByRecursion one (own ++ filled_files a) =
+      all_more (λ (r : MDBFileInfo). Any (λ f. IsRecordOf f r) (files_of is.done)) one (own ++ filled_files a)
+      (λ r any. subst (λ (fs : List Planned). Any (λ f. IsRecordOf f r) fs) (sym order) (any_left (λ f. IsRecordOf f r) (files_of is.done) (files_of is.later) any)) each in
+      all_both one own (take k (filled_files a)) (all_prefix one own (filled_files a) all)
+      (all_prefix one (take k (filled_files a)) (drop k (filled_files a)) (subst (AllByRecursion one) (sym (take-append-drop k (filled_files a))) (all_back one own (filled_files a) all)))
+
+  -- each registration had further chunks
+  merging_nexts : AllByRecursion HasNext (calls_in is.merged.follows.own)
+  merging_nexts = lands_nexts (map chunk_leaf a.chunks) (calls_in is.merged.follows.own) is.merged.lands
+
+  pub unmerged : (Are : List Call → Type 0) → ((calls : List Call) → Are calls → (last : List (List ℕ × ℕ)) × ClosesLast last calls) → (next : List (List ℕ × ℕ)) (new : Holder) (e : StoreError) → IsUnclosed Are a next now new e
+      → IsUnmerged ps start new e
+  unmerged Are closing next new e unclosed =
       let all : files_of ps ≡ files_of is.done ++ files_of is.later = ap files_of is.order ∙ files_append is.done is.later in
+      let f : Follows start now = is.merged.follows in
+      let g : Follows now new = unclosed.0.1.follows in
+      let whole : Follows start new = follows_then start now new f g in
+      let last = closing (calls_in g.own) unclosed.0.2 in
+      let records : recorded_in whole.own ≡ recorded_in f.own ++ take unclosed.0.0 (filled_files a) =
+      ap recorded_in (own_then start now new f g whole) ∙ recorded_in-append f.own g.own ∙ ap (λ (l : List MDBFileInfo). recorded_in f.own ++ l) unclosed.0.1.are in
       record {
         before = now;
         follows = is.merged.follows;
@@ -138,7 +164,11 @@ module _ (ps : List Part) (rest : List Working) (start now : Holder) (infos : Li
         waits = all_more (λ (f : Pending). Waits now a.chunks (files_of is.done) f.0) (λ (f : Pending). Waits now a.chunks (files_of ps) f.0) a.files
             (λ f waits. subst (λ (fs : List Planned). Waits now a.chunks fs f.0) (sym all) (waits_among_more now a.chunks (files_of is.done) (files_of is.later) f.0 waits)) is.merged.waits;
         next = next;
-        refused = unclosed;
+        refused = (first_weaker Are AnyCalls (filled_files a) now new (λ calls are. tt) unclosed.0, unclosed.1);
+        all = whole;
+        records = subst (AllByRecursion (λ r. Any (λ f. IsRecordOf f r) (files_of ps))) (sym records) (unmerged_records unclosed.0.0);
+        last = last.0;
+        registers = subst (ClosesLast last.0) (sym (calls_both start now new f g whole)) (closes_then last.0 (calls_in f.own) (calls_in g.own) merging_nexts last.1);
       }
 
   -- few entries in all, if those since are few

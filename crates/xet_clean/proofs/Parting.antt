@@ -1,11 +1,13 @@
 -- What was made of parts of the sources: their records, in order, and which of them may be merged.
-use Rattle.std.proofs.Common.{◌≡◌, ◌∙◌, ◌⊎◌, inl, inr, ℕ, ◌+◌, ◌*◌, List, [], ◌∷◌, ◌++◌, drop, length, map, refl, sym, ap, subst, append_assoc, arith}
+use Rattle.std.proofs.Common.{◌≡◌, ◌∙◌, ◌⊎◌, inl, inr, ℕ, suc, ◌+◌, ◌*◌, List, [], ◌∷◌, ◌++◌, drop, length, map, refl, sym, ap, subst, append_assoc, arith}
 use Rattle.std.proofs.lemmas.List.{append-nil, drop_at, map-append}
 use Rattle.std.proofs.lemmas.List.Concat.{flat_map-append}
 use Rattle.std.proofs.lemmas.List.Sums.{sum_by-cons}
 use Rattle.std.proofs.lemmas.Simd.{map-map}
 use Rattle.std.specs.List.{AllByRecursion, sum_by}
+use Rattle.std.specs.Prelude.{Any}
 use Rattle.xet_aggregate.specs.Aggregate.{Aggregate, Pending, filled, shifted, shifted_file}
+use Rattle.xet_base.specs.theorems.Elements.{all_back, all_both, all_more}
 use Rattle.xet_hash.specs.Merkle.{xorb_hash}
 use Rattle.xet_history.specs.declared.entry.Entry.{Entry}
 use Rattle.xet_shard_format.specs.declared.record.MDBFileInfo.{MDBFileInfo}
@@ -14,10 +16,10 @@ use Rattle.xet_xorb_chunk.specs.Chunks.{chunk_leaf}
 use Rattle.xet_xorb_chunk.specs.declared.chunk.Chunk.{Chunk}
 use Rattle.xet_clean.specs.Closing.{filled_files, recorded_in}
 use Rattle.xet_clean.specs.Merging.{EachRecorded, HasSeen, IsPartOf, MayMerge, MayMergeAll, Part, files_of, own_of}
-use Rattle.xet_clean.specs.Working.{AreRecorded, IsRecordOf, IsWorking, Planned, Waits}
+use Rattle.xet_clean.specs.Working.{AreRecorded, BeginsWithRecord, IsRecordOf, IsWorking, Planned, Waits}
 use Rattle.xet_clean.specs.declared.working.Working.{Working}
 use Rattle.xet_clean.specs.theorems.InOrder.{recorded_changed_after}
-use Rattle.xet_clean.specs.theorems.Keeping.{own_follows, seen_follows, seen_then, waits_seen}
+use Rattle.xet_clean.specs.theorems.Keeping.{any_left, any_right, own_follows, seen_follows, seen_then, waits_seen}
 use Rattle.xet_clean.specs.theorems.Records.{filled_of, shifted_of, waits_among_earlier, waits_later}
 use Rattle.xet_clean.specs.theorems.Rising.{flat_push}
 
@@ -90,6 +92,35 @@ each_filled a ps earlier all =
     let hash : List ℕ = xorb_hash (map chunk_leaf a.chunks) in
     subst (λ (l : List MDBFileInfo). EachRecorded ps (earlier ++ l)) (map-map (filled hash) (λ (f : Pending). f.0) a.files)
     (each_changed_after (filled hash) (filled_of hash) ps earlier (map (λ (f : Pending). f.0) a.files) all)
+
+-- ---- each record is that of a file of one of the parts
+
+begins_each : (f : Planned) (fs : List Planned) → ((rs : List MDBFileInfo) → AreRecorded fs rs → AllByRecursion (λ r. Any (λ g. IsRecordOf g r) fs) rs) → (bytes : List ℕ) (rs : List MDBFileInfo)
+    → BeginsWithRecord bytes (IsRecordOf f) (λ l. AreRecorded fs l) rs → AllByRecursion (λ r. Any (λ g. IsRecordOf g r) (f ∷ fs)) rs
+begins_each f fs each bytes rs all = go bytes rs all
+  where
+    later : (rs : List MDBFileInfo) → AllByRecursion (λ r. Any (λ g. IsRecordOf g r) fs) rs → AllByRecursion (λ r. Any (λ g. IsRecordOf g r) (f ∷ fs)) rs
+    later rs = all_more (λ r. Any (λ g. IsRecordOf g r) fs) (λ r. Any (λ g. IsRecordOf g r) (f ∷ fs)) rs (λ r any. (suc any.0, any.1, omega (arith, any.2), any.3, any.4))
+
+    go : (bytes : List ℕ) (rs : List MDBFileInfo) → BeginsWithRecord bytes (IsRecordOf f) (λ l. AreRecorded fs l) rs → AllByRecursion (λ r. Any (λ g. IsRecordOf g r) (f ∷ fs)) rs
+    go [] rs a = later rs (each rs a)
+    go (b ∷ bs) [] a = absurd a
+    go (b ∷ bs) (r ∷ rs) a = ((0, f, omega arith, refl, a.0), later rs (each rs a.1))
+
+each_of : (fs : List Planned) (rs : List MDBFileInfo) → AreRecorded fs rs → AllByRecursion (λ r. Any (λ g. IsRecordOf g r) fs) rs
+each_of [] rs none = subst (AllByRecursion (λ r. Any (λ g. IsRecordOf g r) [])) (sym none) tt
+each_of (f ∷ fs) rs all = begins_each f fs (λ l a. each_of fs l a) f.bytes rs all
+
+pub each_one : (ps : List Part) (rs : List MDBFileInfo) → EachRecorded ps rs → AllByRecursion (λ r. Any (λ f. IsRecordOf f r) (files_of ps)) rs
+each_one [] rs none = subst (AllByRecursion (λ r. Any (λ f. IsRecordOf f r) (files_of []))) (sym none) tt
+each_one (p ∷ ps) rs (first, rest, is, here, more) =
+    let all : MDBFileInfo → Type 0 = λ r. Any (λ f. IsRecordOf f r) (p.files ++ files_of ps) in
+    let own : List MDBFileInfo = recorded_in (own_of p) in
+    subst (AllByRecursion all) (sym is)
+    (all_both all first rest
+    (all_more (λ r. Any (λ f. IsRecordOf f r) p.files) all first (λ r any. any_left (λ f. IsRecordOf f r) p.files (files_of ps) any)
+    (all_back (λ r. Any (λ f. IsRecordOf f r) p.files) own first (each_of p.files (own ++ first) here)))
+    (all_more (λ r. Any (λ f. IsRecordOf f r) (files_of ps)) all rest (λ r any. any_right (λ f. IsRecordOf f r) p.files (files_of ps) any) (each_one ps rest more)))
 
 -- ---- records that wait after other chunks
 

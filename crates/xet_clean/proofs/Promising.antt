@@ -27,7 +27,7 @@ use Rattle.xet_steps.specs.Alone.{AloneState, IsAlone, IsFault, alone_of}
 use Rattle.xet_steps.specs.Interface.{HasFault}
 use Rattle.xet_steps.specs.Holders.{Follows, Holder, core_at, numbered}
 use Rattle.xet_clean.specs.Cleaning.{Grows, HasReason, IsBounded, IsCleaned, entries_since}
-use Rattle.xet_clean.specs.Sources.{AreRead, IsCutShort, IsLoopError}
+use Rattle.xet_clean.specs.Sources.{AreRead, IsLoopError, IsShort}
 use Rattle.xet_clean.specs.Working.{EndsWith, Planned}
 use Rattle.xet_clean.specs.theorems.Choosing.{unnumbered}
 use Rattle.xet_clean.specs.theorems.Refusing.{none_refused}
@@ -42,7 +42,7 @@ module _ {S T : Type 0} (tells : S → Bool) (left : S → List ℕ) (faults : S
   pub record IsResult (start last : Holder) (r : Result T StoreError) : Type 0 where
     pub ends : IfOk r (λ t. (files : List Planned) × EndsWith policy tells left sources start last files (infos t) (choices t) (metrics t))
     pub read : OnOk r (AreRead tells left start.limits.max_source_bytes sources now)
-    pub short : IfErr r (IsCutShort policy tells left sources now start last)
+    pub short : IfErr r (IsShort policy tells left sources now start last)
     pub why : IfErr r (IsLoopError tells left faults sources now start last)
 
   -- all that is promised of it
@@ -98,8 +98,8 @@ module _ {S : Type 0} (tells : S → Bool) (left : S → List ℕ) (faults : S �
   grows_of e why = grows_by old new stopped is (Some e) (some_made old new stopped is)
 
   pub promises : {T : Type 0} (policy : Sha256Policy) (infos : T → List XetFileInfo) (choices : T → List (List Choice)) (metrics : T → DeduplicationMetrics) (r : Result T StoreError)
-      → IsResult tells left faults policy sources now infos choices metrics (alone_of old old false) (alone_of old new stopped) r → Promises tells left faults policy sources now infos choices metrics old new r
-  promises policy infos choices metrics (Ok t) result =
+      → IsResult tells left faults policy sources now infos choices metrics (alone_of old old false) (alone_of old new stopped) r → map tells now ≡ map tells sources → Promises tells left faults policy sources now infos choices metrics old new r
+  promises policy infos choices metrics (Ok t) result tell =
       let files : List Planned = result.ends.0 in
       let told = ended_infos policy tells left sources old new stopped is files (infos t) (choices t) (metrics t) result.ends.1 in
       let plans = ended_recorded policy tells left sources old new stopped is files (infos t) (choices t) (metrics t) result.ends.1 in
@@ -118,7 +118,7 @@ module _ {S : Type 0} (tells : S → Bool) (left : S → List ℕ) (faults : S �
         bound = tt;
         reason = tt;
       }
-  promises policy infos choices metrics (Err e) result = record {
+  promises policy infos choices metrics (Err e) result tell = record {
     infos_are = tt;
     read = tt;
     short = tt;
@@ -128,7 +128,7 @@ module _ {S : Type 0} (tells : S → Bool) (left : S → List ℕ) (faults : S �
     keeps = is.steps.keeps;
     steps = grows_of e result.why;
     adds = tt;
-    bound = bounded_since policy tells left sources now old new stopped e is sound result.short;
+    bound = bounded_since policy tells left sources now old new stopped e is sound tell result.short.0 result.short.1;
     reason = reason_of e result.why;
   }
 
@@ -144,12 +144,13 @@ pub alone_promises : {S T : Type 0} (tells : S → Bool) (left : S → List ℕ)
     → IsRecorded new
     → Follows (alone_of first.start first.store first.stopped) (alone_of last.start last.store last.stopped)
     → IsResult tells left faults policy sources now infos choices metrics (alone_of first.start first.store first.stopped) (alone_of last.start last.store last.stopped) r
+    → map tells now ≡ map tells sources
     → Promises tells left faults policy sources now infos choices metrics old new r
-alone_promises tells left faults policy sources now infos choices metrics old new first last r start_is store_is going given is sound recorded follows result =
+alone_promises tells left faults policy sources now infos choices metrics old new first last r start_is store_is going given is sound recorded follows result tell =
     let began : last.start ≡ old = ap (λ (h : Holder). h.origin) follows.is ∙ start_is in
     let alone : IsAlone old new last.stopped = subst (λ (s : RecordedState). IsAlone s new last.stopped) began (subst (λ (s : RecordedState). IsAlone last.start s last.stopped) (sym given) is) in
     let first_is : alone_of first.start first.store first.stopped ≡ alone_of old old false = λ i. alone_of (start_is i) (store_is i) (going i) in
     let last_is : alone_of last.start last.store last.stopped ≡ alone_of old new last.stopped = λ i. alone_of (began i) (sym given i) last.stopped in
     promises tells left faults sources now old new last.stopped alone sound recorded policy infos choices metrics r
     (subst (λ (h : Holder). IsResult tells left faults policy sources now infos choices metrics h (alone_of old new last.stopped) r) first_is
-    (subst (λ (h : Holder). IsResult tells left faults policy sources now infos choices metrics (alone_of first.start first.store first.stopped) h r) last_is result))
+    (subst (λ (h : Holder). IsResult tells left faults policy sources now infos choices metrics (alone_of first.start first.store first.stopped) h r) last_is result)) tell

@@ -92,4 +92,4 @@ cleaner_error number tells left rest bytes more count before after old mid new e
 -- nothing was done
 pub few_nothing : (h : Holder) (bytes : List ℕ) → IsFew h h bytes
 unfolding asking_nothing follows_nothing
-few_nothing h bytes = record { follows = asking_nothing h; few = omega arith }
+few_nothing h bytes = record { follows = asking_nothing h; nexts = tt; few = omega arith }

@@ -1,5 +1,6 @@
 -- One turn of the loop over the sources: a source is cleaned, and its file is kept.
 use Rattle.std.proofs.Common.{Result, Ok, Err, IfOk, OnOk, ◌≡◌, ◌∙◌, ℕ, ◌+◌, ◌*◌, ◌^◌, ◌≤◌, ◌<◌, Bool, true, false, List, [], ◌∷◌, ◌++◌, length, map, get_or, set, sym, ap, subst, arith}
+use Rattle.std.specs.List.{AllByRecursion}
 use Rattle.std.specs.Result.{IfErr, OnErr}
 use Rattle.xet_aggregate.specs.Aggregate.{Aggregate, empty}
 use Rattle.xet_aggregate.specs.Metrics.{zeros}
@@ -7,17 +8,20 @@ use Rattle.xet_aggregate.specs.declared.metrics.DeduplicationMetrics.{Deduplicat
 use Rattle.xet_choices.specs.declared.choice.Choice.{Choice}
 use Rattle.xet_cut.specs.Limits.{AreInRange}
 use Rattle.xet_cut.specs.declared.limits.LimitSettings.{LimitSettings}
+use Rattle.xet_dedup_queries.specs.Counting.{HasNext as Further}
 use Rattle.xet_file_plan.specs.Moves.{PlanState}
 use Rattle.xet_hash.specs.declared.error.StoreError.{StoreError}
 use Rattle.xet_io.specs.Frame.{Stays}
 use Rattle.xet_store.specs.declared.info.XetFileInfo.{XetFileInfo}
-use Rattle.xet_steps.specs.Holders.{FollowsAsking, Holder}
+use Rattle.xet_steps.specs.Holders.{FollowsAsking, Holder, calls_in}
 use Rattle.xet_xorb_chunk.specs.Chunks.{chunk_leaf}
 use Rattle.xet_clean.specs.Planning.{IsFew, IsFinished}
-use Rattle.xet_clean.specs.Closing.{Closes, IsAtMost, IsUnclosed}
-use Rattle.xet_clean.specs.Sources.{AreRead, IsCutShort, IsLoopError, IsSourceError, Takes}
+use Rattle.xet_clean.specs.Closing.{Closes, IsAtMost, IsUnclosed, RegistersAtMost}
+use Rattle.xet_clean.specs.Sources.{AreRead, IsLoopError, IsShort, IsSourceError, Takes}
 use Rattle.xet_clean.specs.Working.{EndsWith, IsAdded, IsWorking, Planned}
-use Rattle.xet_clean.proofs.Looping.{HasNext, IsLoop, IsStopped, ends_with, has_next, loop_begins, loop_next, next_at, read_end, stopped_at_end, stopped_at_keep, stopped_at_source}
+use Rattle.xet_clean.proofs.Looped.{ends_with, read_end}
+use Rattle.xet_clean.proofs.Looping.{HasNext, IsLoop, IsStopped, has_next, loop_begins, loop_next, next_at, stopped_at_end, stopped_at_keep, stopped_at_source}
+use Rattle.xet_clean.specs.theorems.Nexts.{last_closes}
 use Rattle.xet_clean.specs.theorems.Turns.{done_one, taken_from}
 use Rattle.xet_clean.specs.declared.policy.Sha256Policy.{Sha256Policy}
 use Rattle.xet_clean.specs.Policies.{sha256_by}
@@ -34,7 +38,7 @@ module _ {S F : Type 0} (tells : S → Bool) (left : S → List ℕ) (faults : S
   -- What is known after its file was kept, with this result.
   pub record IsKeptAt {U : Type 0} (a : Aggregate) (h' last : Holder) (file : Result F StoreError) (r : Result U StoreError) : Type 0 where
     pub few : IsAtMost (2 * length a.chunks + 2 * length a.files) h' last
-    pub refused : IfErr r (λ e. IfOk file (λ f. IsUnclosed a (map chunk_leaf (remains f).chunks) h' last e))
+    pub refused : IfErr r (λ e. IfOk file (λ f. IsUnclosed (AllByRecursion Further) a (map chunk_leaf (remains f).chunks) h' last e))
     pub kept : IfErr file (λ e. (r ≡ Err e) × (last ≡ h'))
 
   module _ (sources now : List S) (n : ℕ) (start h : Holder) (infos : List XetFileInfo) (choices : List (List Choice)) (metrics : DeduplicationMetrics) (a : Aggregate)
@@ -65,20 +69,20 @@ module _ {S F : Type 0} (tells : S → Bool) (left : S → List ℕ) (faults : S
 
     -- it was not cleaned, or not kept
     pub turn_stops : {U : Type 0} (d t : S) (h' last : Holder) (file : Result F StoreError) (r : Result U StoreError) (e : StoreError) → IsCleanedAt n (get_or now n d) t h h' file → IsKeptAt a h' last file r → r ≡ Err e
-        → IsStopped tells left faults policy sources (set now n t) start last e
+        → IsStopped tells left faults policy [] sources (set now n t) start last e
     turn_stops d t h' last (Ok f) (Ok u) e is kept same = absurd (cc same)
     turn_stops d t h' last (Ok f) (Err x) e is kept same =
         let one = cleaned_next d t h' (Ok f) is in
         let finished = one.finished.2 in
-        subst (IsStopped tells left faults policy sources (set now n t) start last) (cc same)
+        subst (IsStopped tells left faults policy [] sources (set now n t) start last) (cc same)
         (stopped_at_keep tells left faults policy sources now n start h infos choices metrics a l next t h' last one.finished.0 finished.plan (taken_from tells left faults true next.source t one.finished.0 one.frame one.finished.1) finished.planned
         (map chunk_leaf (remains f).chunks) x kept.few kept.refused)
     turn_stops {U} d t h' last (Err x) r e is kept same =
         let one = cleaned_next d t h' (Err x) is in
         let both : ◌≡◌ {A = Result U StoreError} (Err x) (Err e) = sym kept.kept.0 ∙ same in
         let errors : x ≡ e = cc both in
-        subst (λ (g : Holder). IsStopped tells left faults policy sources (set now n t) start g e) (sym kept.kept.1)
-        (subst (IsStopped tells left faults policy sources (set now n t) start h') errors
+        subst (λ (g : Holder). IsStopped tells left faults policy [] sources (set now n t) start g e) (sym kept.kept.1)
+        (subst (IsStopped tells left faults policy [] sources (set now n t) start h') errors
         (stopped_at_source tells left faults policy sources now n start h infos choices metrics a l next t h' one.few.0 (taken_from tells left faults false next.source t one.few.0 one.frame one.few.1) x one.follows one.few.2 one.refused))
 
     -- it was kept
@@ -129,10 +133,11 @@ module _ {S T : Type 0} (tells : S → Bool) (left : S → List ℕ) (faults : S
   end_reads (Ok t) all = read_end tells left faults policy sources now n start h infos choices metrics a l all
   end_reads (Err e) all = tt
 
-  pub end_short : (r : Result T StoreError) → IsAtMost (2 * length a.chunks + 2 * length a.files) h last → IfErr r (IsUnclosed a [] h last) → IfErr r (IsCutShort policy tells left sources now start last)
+  pub end_short : (r : Result T StoreError) → IsAtMost (2 * length a.chunks + 2 * length a.files) h last → IfErr r (IsUnclosed (RegistersAtMost a []) a [] h last) → IfErr r (IsShort policy tells left sources now start last)
   end_short (Ok t) few u = tt
-  end_short (Err e) few u = (stopped_at_end tells left faults policy sources now n start h infos choices metrics a l last e few u).short
+  end_short (Err e) few u =
+      ((last_closes a (calls_in u.0.1.follows.own) u.0.2).0, (stopped_at_end tells left faults policy sources now n start h infos choices metrics a l last e few u).short)
 
-  pub end_reason : (r : Result T StoreError) → IsAtMost (2 * length a.chunks + 2 * length a.files) h last → IfErr r (IsUnclosed a [] h last) → IfErr r (IsLoopError tells left faults sources now start last)
+  pub end_reason : (r : Result T StoreError) → IsAtMost (2 * length a.chunks + 2 * length a.files) h last → IfErr r (IsUnclosed (RegistersAtMost a []) a [] h last) → IfErr r (IsLoopError tells left faults sources now start last)
   end_reason (Ok t) few u = tt
   end_reason (Err e) few u = (stopped_at_end tells left faults policy sources now n start h infos choices metrics a l last e few u).reason

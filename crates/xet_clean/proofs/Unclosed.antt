@@ -1,6 +1,7 @@
 -- An aggregate that was not closed: no file was refused, unless the error says so.
 use Rattle.std.proofs.Common.{◌≢◌, ◌⊎◌, inl, inr, ℕ, List, map, sym, subst}
 use Rattle.xet_aggregate.specs.Aggregate.{Aggregate}
+use Rattle.xet_choices.specs.Calls.{Call}
 use Rattle.xet_hash.specs.declared.error.Reason.TheVariants.{OtherFileHash}
 use Rattle.xet_hash.specs.declared.error.StoreError.{StoreError}
 use Rattle.xet_hash.specs.declared.error.StoreError.TheVariants.{MalformedData}
@@ -18,8 +19,9 @@ registers_follow a next old new (inl r) = subst (λ (h : Holder). Follows old h)
 registers_follow a next old new (inr r) = (adds_registered (map chunk_leaf a.chunks) next old new r.0 r.2).follows
 
 -- no file was refused, unless the error says so
-pub unclosed_since : (a : Aggregate) (next : List (List ℕ × ℕ)) (start old new : Holder) (e : StoreError) → Follows start old → e ≢ MalformedData OtherFileHash → IsUnclosed a next old new e → IsErrorSince start new e
-unclosed_since a next start old new e follows other u = go u.1
+pub unclosed_since : (Are : List Call → Type 0) (a : Aggregate) (next : List (List ℕ × ℕ)) (start old new : Holder) (e : StoreError) → Follows start old → e ≢ MalformedData OtherFileHash → IsUnclosed Are a next old new e
+    → IsErrorSince start new e
+unclosed_since Are a next start old new e follows other u = go u.1
   where
     closing : (mid : Holder) → Follows start mid → IsClosingError (filled_files a) mid new e → IsErrorSince start new e
     closing mid later (inl refused) = absurd (other refused.4.error)

@@ -10,7 +10,7 @@ use Rattle.xet_file_plan.specs.Moves.{PlanState}
 use Rattle.xet_hash.specs.Merkle.{leaves_of, total_len}
 use Rattle.xet_xorb_chunk.specs.Chunks.{chunk_leaf}
 use Rattle.xet_steps.specs.Interface.{Stands}
-use Rattle.xet_steps.specs.Holders.{Follows, FollowsAsking, Holder, calls_of, core_at, xorb_limits, lengths_in}
+use Rattle.xet_steps.specs.Holders.{Follows, FollowsAsking, Holder, calls_in, calls_of, core_at, xorb_limits, lengths_in}
 
 -- These bytes of a file came since its deduplication began. They are split into chunks, which are placed, and into what is
 -- buffered. There was at most one query for each chunk, and each registration has
@@ -58,7 +58,8 @@ pub record IsBatchOf (leaves before after : List (List ℕ × ℕ)) (old new : H
   pub few : entries_at_most calls + 2 * length after ≤ queries_of calls + 2 * (length before + length leaves)
 
 -- A batch of chunks was not placed: with the chunks of the open block before it, each of which may be two entries more, the
--- entries are at most three for each of its chunks.
+-- entries are at most three for each of its chunks. Each registration has the chunk that did not fit.
 pub record StopsInBatch (leaves : List (List ℕ × ℕ)) (block : ℕ) (old new : Holder) : Type 0 where
   pub follows : Follows old new
+  pub nexts : AllByRecursion HasNext (calls_in follows.own)
   pub few : length follows.own ≤ 3 * length leaves + 2 * block

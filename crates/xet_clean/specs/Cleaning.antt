@@ -1,5 +1,5 @@
 -- Cleaning: what it returns, and what it adds to the history.
-use Rattle.std.specs.Prelude.{◌≡◌, ◌≢◌, ◌⊎◌, ◌<◌, ◌≤◌, ◌+◌, ◌*◌, ℕ, Bool, true, List, [], ◌∷◌, ◌++◌, drop, length, map, Any, Option, None, Some, suc, take}
+use Rattle.std.specs.Prelude.{◌≡◌, ◌≢◌, ◌⊎◌, ◌<◌, ◌≤◌, ◌+◌, ◌*◌, ℕ, Bool, true, List, [], ◌∷◌, ◌++◌, drop, length, map, Any, Option, None, Some, IsSome, suc, take}
 use Rattle.std.specs.List.{AllByRecursion, IsAmong, flat_map, sum_by}
 use Rattle.xet_aggregate.specs.Metrics.{zeros}
 use Rattle.xet_aggregate.specs.declared.metrics.DeduplicationMetrics.{DeduplicationMetrics}
@@ -10,6 +10,7 @@ use Rattle.xet_choices.specs.declared.choice.Choice.{Choice}
 use Rattle.xet_cut.specs.Chunking.{chunking}
 use Rattle.xet_cut.specs.declared.limits.LimitSettings.{LimitSettings}
 use Rattle.xet_dedup.specs.Deduping.{metrics_of, metrics_of_both}
+use Rattle.xet_dedup_queries.specs.Counting.{HasNext}
 use Rattle.xet_folder.specs.Contents.{max_shards}
 use Rattle.xet_hash.specs.Hash.{sentinel}
 use Rattle.xet_hash.specs.Merkle.{chunk_hash, file_hash, leaves_of}
@@ -27,8 +28,9 @@ use Rattle.xet_io.specs.Faults.{Rose}
 use Rattle.xet_shard.specs.Queries.{kept_hash}
 use Rattle.xet_steps.specs.Recorded.{RecordedState, core_of}
 use Rattle.xet_steps.specs.Steps.{Steps}
-use Rattle.xet_store.specs.Cleaning.{Adds, EachTold, FailedAt, IsLongAt, RoseAt, chunkings, info_of}
-use Rattle.xet_store.specs.Separate.{Among, MetChunk}
+use Rattle.xet_store.specs.Cleaning.{Adds, EachTold, FailedAt, HasFile, IsLongAt, RoseAt, chunkings, info_of}
+use Rattle.xet_store.specs.Separate.{Among, MetChunk, Separate}
+use Rattle.xet_store.specs.Store.{plan_of}
 use Rattle.xet_store.specs.declared.info.XetFileInfo.{XetFileInfo}
 use Rattle.xet_steps.specs.Alone.{IsFault, StepsTo, StepsUntil}
 use Rattle.xet_clean.specs.Files.{HasChoices, leaves_in}
@@ -85,6 +87,13 @@ Lands last (Registered chunks next ∷ calls) = ((next ≢ []) × (Any (Register
 abbrev pub close_of : List (List ℕ × ℕ) → List Call
 close_of [] = []
 close_of (chunk ∷ chunks) = Registered (chunk ∷ chunks) [] ∷ []
+
+-- Each xorb was registered with further chunks; only the last of all, of these chunks if there are any, was registered without,
+-- and no query follows it.
+pub record ClosesLast (last : List (List ℕ × ℕ)) (calls : List Call) : Type 0 where
+  pub before : List Call
+  pub is : calls ≡ before ++ close_of last
+  pub nexts : AllByRecursion HasNext before
 
 -- Each xorb was registered with further chunks, which are a part of a later one; only the last of all was registered without, and
 -- no query follows it.
@@ -174,7 +183,8 @@ EachTaken tells left (s ∷ ss) (t ∷ ts) (f ∷ fs) = (tells s ≡ true → le
 -- After an error: the sources before some source, `done`, were read to their ends, and had no more bytes than the limits allow;
 -- the sources after it were not read. An error that names a source names that one. There are at most three entries for each chunk
 -- of what was taken and two for each source. The files recorded are the first ones, in order, each that is not empty once; none is
--- that of source `done`.
+-- that of source `done`. Each of them has a plan; and if disk and sources are observable, and there are no collisions among the
+-- data seen, it resolves to the file's chunks. At most one xorb, the last, was registered without further chunks.
 pub record IsBounded {S : Type 0} (policy : Sha256Policy) (tells : S → Bool) (left : S → List ℕ) (sources now : List S) (old new : RecordedState) (e : StoreError) : Type 0 where
   pub files : List (List ℕ)
   pub taken : EachTaken tells left sources now files
@@ -189,6 +199,11 @@ pub record IsBounded {S : Type 0} (policy : Sha256Policy) (tells : S → Bool) (
   pub records : AreRecords policy old.store.limits (take count files) (files_in (entries_since old new))
   pub bound : length (entries_since old new) ≤ 3 * sum_by (λ f. length (chunking old.store.limits f)) files + 2 * length files
   pub adds : Adds old.store.records new.store.records (map (λ f. (info_of old.store.limits f).hash) (take count files))
+  pub plans : AllByRecursion (λ f. IsSome (plan_of new.store.records (info_of old.store.limits f).hash)) (take count files)
+  pub resolve : old.store.tells ≡ true → AllByRecursion (λ s. tells s ≡ true) sources → Separate new.store (chunkings left old.store.limits sources)
+      → AllByRecursion (HasFile new.store) (map (chunking old.store.limits) (take count files))
+  pub last : List (List ℕ × ℕ)
+  pub registers : ClosesLast last (calls_since old new)
 
 -- ---- errors
 

@@ -2,6 +2,8 @@
 use Rattle.std.specs.Prelude.{◌≡◌, ◌≢◌, ◌⊎◌, ◌≤◌, ℕ, Bool, true, false, List, [], ◌∷◌, length, map, take}
 use Rattle.std.specs.List.{AllByRecursion, IsAmong}
 use Rattle.xet_aggregate.specs.Aggregate.{Aggregate, Pending, empty, filled, fits, merged}
+use Rattle.xet_choices.specs.Calls.{Call}
+use Rattle.xet_choices.specs.Calls.Call.{Registered}
 use Rattle.xet_hash.specs.Merkle.{xorb_hash}
 use Rattle.xet_hash.specs.declared.error.StoreError.{StoreError}
 use Rattle.xet_history.specs.declared.entry.Entry.{Entry}
@@ -9,7 +11,7 @@ use Rattle.xet_shard_format.specs.Records.{IsFile}
 use Rattle.xet_shard_format.specs.declared.record.MDBFileInfo.{MDBFileInfo}
 use Rattle.xet_xorb_chunk.specs.Chunks.{chunk_leaf}
 use Rattle.xet_steps.specs.Interface.{IsErrorSince}
-use Rattle.xet_steps.specs.Holders.{Follows, Holder}
+use Rattle.xet_steps.specs.Holders.{Follows, Holder, calls_in}
 use Rattle.xet_clean.specs.Cleaning.{files_in}
 use Rattle.xet_steps.specs.Stepping.{SawComplete, SawOther, SawRegister}
 
@@ -50,15 +52,27 @@ pub record Records (files : List MDBFileInfo) (old new : Holder) : Type 0 where
   pub follows : Follows old new
   pub are : recorded_in follows.own ≡ files
 
--- They record the first of these files, in order, and no others.
-abbrev pub RecordsFirst : List MDBFileInfo → Holder → Holder → Type 0
-RecordsFirst files old new = (count : ℕ) × Records (take count files) old new
+-- They record the first of these files, in order, and no others; and the queries and registrations are such.
+abbrev pub RecordsFirst : (List Call → Type 0) → List MDBFileInfo → Holder → Holder → Type 0
+RecordsFirst Are files old new = (count : ℕ) × (r : Records (take count files) old new) × Are (calls_in r.follows.own)
+
+-- any queries and registrations
+abbrev pub AnyCalls : List Call → Type 0
+AnyCalls calls = Unit {0}
+
+-- There are none.
+abbrev pub NoCalls : List Call → Type 0
+NoCalls calls = calls ≡ []
+
+-- No xorb was registered, or that of the chunks, which are not empty.
+abbrev pub RegistersAtMost : Aggregate → List (List ℕ × ℕ) → List Call → Type 0
+RegistersAtMost a next calls = (calls ≡ []) ⊎ ((a.chunks ≢ []) × (calls ≡ Registered (map chunk_leaf a.chunks) next ∷ []))
 
 -- Why the aggregate was not closed: a step failed, or memory is out; or its xorb was registered, and one of its files was
--- rejected. The first of its files were recorded.
-abbrev pub IsUnclosed : Aggregate → List (List ℕ × ℕ) → Holder → Holder → StoreError → Type 0
-IsUnclosed a next old new e =
-    RecordsFirst (filled_files a) old new
+-- rejected. The first of its files were recorded, and the queries and registrations are such.
+abbrev pub IsUnclosed : (List Call → Type 0) → Aggregate → List (List ℕ × ℕ) → Holder → Holder → StoreError → Type 0
+IsUnclosed Are a next old new e =
+    RecordsFirst Are (filled_files a) old new
     × (((mid : Holder) × RegistersChunks a next old mid × IsClosingError (filled_files a) mid new e) ⊎ IsErrorSince old new e)
 
 -- The chunks and files of `rest` joined the aggregate; if they did not fit, the aggregate was closed first, and they are in a

@@ -12,10 +12,10 @@ use Rattle.xet_shard_format.specs.declared.record.MDBFileInfo.{MDBFileInfo}
 use Rattle.xet_steps.specs.Holders.{Follows, Holder, calls_in, core_at}
 use Rattle.xet_store.specs.declared.info.XetFileInfo.{XetFileInfo}
 use Rattle.xet_xorb_chunk.specs.Chunks.{chunk_leaf}
-use Rattle.xet_clean.specs.Cleaning.{RegistersFew, RegistersPart, metrics_sum}
-use Rattle.xet_clean.specs.Closing.{IsUnclosed, recorded_in}
+use Rattle.xet_clean.specs.Cleaning.{ClosesLast, RegistersFew, RegistersPart, metrics_sum}
+use Rattle.xet_clean.specs.Closing.{AnyCalls, IsUnclosed, recorded_in}
 use Rattle.xet_clean.specs.Planning.{IsWithin}
-use Rattle.xet_clean.specs.Working.{AreRecorded, IsWorking, Planned, Waits}
+use Rattle.xet_clean.specs.Working.{AreRecorded, IsRecordOf, IsWorking, Planned, Waits}
 use Rattle.xet_clean.specs.declared.working.Working.{Working}
 
 -- What was made of a part of the sources, between two states of a maker of steps.
@@ -87,7 +87,8 @@ pub record MergesAll (ps : List Part) (old new : Holder) (infos : List XetFileIn
   pub few : length follows.own ≤ sum_by (λ p. 2 * length p.left.chunks + 2 * length p.left.files) ps
 
 -- A record was rejected, or a step failed, when an aggregate of merged parts was closed. Each record that waited for its xorb is
--- that of a file of one of the parts, whose segments have the hashes of its chunks.
+-- that of a file of one of the parts, whose segments have the hashes of its chunks. Each record that was made is that of a file of
+-- one of the parts; and each xorb was registered with further chunks, but for one of these last chunks, if there are any.
 pub record IsUnmerged (ps : List Part) (old new : Holder) (e : StoreError) : Type 0 where
   pub before : Holder
   pub follows : Follows old before
@@ -96,4 +97,8 @@ pub record IsUnmerged (ps : List Part) (old new : Holder) (e : StoreError) : Typ
   pub within : IsWithin before.limits aggregate.chunks
   pub waits : AllByRecursion (λ p. Waits before aggregate.chunks (files_of ps) p.0) aggregate.files
   pub next : List (List ℕ × ℕ)
-  pub refused : IsUnclosed aggregate next before new e
+  pub refused : IsUnclosed AnyCalls aggregate next before new e
+  pub all : Follows old new
+  pub records : AllByRecursion (λ r. Any (λ f. IsRecordOf f r) (files_of ps)) (recorded_in all.own)
+  pub last : List (List ℕ × ℕ)
+  pub registers : ClosesLast last (calls_in all.own)

@@ -16,7 +16,7 @@ use Rattle.xet_store.specs.declared.info.XetFileInfo.{XetFileInfo}
 use Rattle.xet_xorb_chunk.specs.Chunks.{chunk_leaf}
 use Rattle.xet_xorb_chunk.specs.declared.chunk.Chunk.{Chunk}
 use Rattle.xet_steps.specs.Interface.{Stands}
-use Rattle.xet_steps.specs.Holders.{FollowsAsking, Holder, calls_of, core_at, xorb_limits, lengths_in}
+use Rattle.xet_steps.specs.Holders.{FollowsAsking, Holder, calls_in, calls_of, core_at, xorb_limits, lengths_in}
 use Rattle.xet_clean.specs.Files.{leaves_in}
 use Rattle.xet_clean.specs.Policies.{info_with}
 
@@ -40,9 +40,11 @@ pub record IsPlanned (start now : Holder) (bytes : List ℕ) (plan : PlanState) 
   pub lands : LandsIn (map chunk_leaf plan.block) follows.calls
   pub few : length follows.follows.own + 2 * length plan.block ≤ 3 * length plan.leaves
 
--- A file of which these bytes came was not cleaned: there are at most three entries for each chunk of these.
+-- A file of which these bytes came was not cleaned: there are at most three entries for each chunk of these, and each registration
+-- has the chunk that did not fit.
 pub record IsFew (start now : Holder) (bytes : List ℕ) : Type 0 where
   pub follows : FollowsAsking start now
+  pub nexts : AllByRecursion HasNext (calls_in follows.follows.own)
   pub few : length follows.follows.own ≤ 3 * length (leaves_in now.limits bytes)
 
 -- What cleaning returns of the file with this SHA-256, or without one, and what is left of it: its last chunks, and its record,

@@ -11,11 +11,11 @@ use Rattle.xet_cut.specs.Chunking.{chunking}
 use Rattle.xet_aggregate.specs.Aggregate.{Aggregate, IsAggregate}
 use Rattle.xet_store.specs.Cleaning.{EachTold, FailedAt, IsLongAt, RoseAt}
 use Rattle.xet_steps.specs.Interface.{IsErrorSince}
-use Rattle.xet_steps.specs.Holders.{Follows, Holder}
-use Rattle.xet_clean.specs.Cleaning.{AreRecords, EachTaken}
+use Rattle.xet_steps.specs.Holders.{Follows, Holder, calls_in}
+use Rattle.xet_clean.specs.Cleaning.{AreRecords, ClosesLast, EachTaken}
 use Rattle.xet_clean.specs.declared.policy.Sha256Policy.{Sha256Policy}
 use Rattle.xet_clean.specs.Planning.{IsWithin}
-use Rattle.xet_clean.specs.Closing.{IsUnclosed, recorded_in}
+use Rattle.xet_clean.specs.Closing.{AnyCalls, IsUnclosed, recorded_in}
 use Rattle.xet_clean.specs.Working.{IsWorking, Planned, Waits, WasPlanned}
 use Rattle.xet_aggregate.specs.declared.metrics.DeduplicationMetrics.{DeduplicationMetrics}
 use Rattle.xet_choices.specs.declared.choice.Choice.{Choice}
@@ -73,8 +73,9 @@ IsFewFor files old new =
     (follows : Follows old new) × (length follows.own ≤ 3 * sum_by (λ f. length (chunking old.limits f)) files + 2 * length files)
 
 -- After an error: the sources before source `done` were read to their ends, and those after it were not read. There are at most
--- three entries for each chunk of what was taken and two for each source. The files recorded are the first ones, in order.
-pub record IsCutShort {S : Type 0} (policy : Sha256Policy) (tells : S → Bool) (left : S → List ℕ) (sources now : List S) (old new : Holder) (e : StoreError) : Type 0 where
+-- three entries for each chunk of what was taken and two for each source. The files recorded are the first ones, in order. Each xorb
+-- was registered with further chunks, but for one of these last chunks, if there are any.
+pub record IsCutShort {S : Type 0} (last : List (List ℕ × ℕ)) (policy : Sha256Policy) (tells : S → Bool) (left : S → List ℕ) (sources now : List S) (old new : Holder) (e : StoreError) : Type 0 where
   pub files : List (List ℕ)
   pub taken : EachTaken tells left sources now files
   pub done : ℕ
@@ -86,6 +87,11 @@ pub record IsCutShort {S : Type 0} (policy : Sha256Policy) (tells : S → Bool) 
   pub count : ℕ
   pub recorded : count ≤ done
   pub records : AreRecords policy old.limits (take count files) (recorded_in few.0.own)
+  pub registers : ClosesLast last (calls_in few.0.own)
+
+-- the same, whatever the last chunks
+abbrev pub IsShort : {S : Type 0} → Sha256Policy → (S → Bool) → (S → List ℕ) → List S → List S → Holder → Holder → StoreError → Type 0
+IsShort policy tells left sources now old new e = (last : List (List ℕ × ℕ)) × IsCutShort last policy tells left sources now old new e
 
 -- A record was rejected, or a step failed, when an aggregate was closed. Each record that waited for its xorb is that of a file
 -- of one of the first sources, whose segments have the hashes of its chunks.
@@ -103,7 +109,7 @@ pub record IsUnclosedFor {S : Type 0} (tells : S → Bool) (left : S → List �
   pub within : IsWithin before.limits aggregate.chunks
   pub waits : AllByRecursion (λ p. Waits before aggregate.chunks files p.0) aggregate.files
   pub next : List (List ℕ × ℕ)
-  pub refused : IsUnclosed aggregate next before now e
+  pub refused : IsUnclosed AnyCalls aggregate next before now e
 
 -- Why the loop over the sources ended. No step failed if the error is one of a source.
 abbrev pub IsLoopError : {S : Type 0} → (S → Bool) → (S → List ℕ) → (S → ℕ) → List S → List S → Holder → Holder → StoreError → Type 0

@@ -6,6 +6,7 @@ pub mod Ending
 pub mod Hashes
 pub mod InOrder
 pub mod Keeping
+pub mod Nexts
 pub mod Recorded
 pub mod Records
 pub mod Refusing

@@ -4,7 +4,7 @@ ghost use Rattle.std.specs.Prelude.{◌≡◌, ◌≢◌, ◌+◌, ◌*◌, IfEr
 ghost use Rattle.xet_aggregate.specs.Aggregate.{IsAggregate};
 ghost use Rattle.xet_clean.specs.Planning.{IsWithin};
 ghost use Rattle.xet_steps.specs.Holders.{Follows, xorb_limits};
-ghost use Rattle.xet_clean.specs.Closing.{Closes, Completes, HaveForm, IsAtMost, IsClosingError, IsUnclosed, RecordsFirst};
+ghost use Rattle.xet_clean.specs.Closing.{Closes, Completes, HaveForm, IsAtMost, IsClosingError, IsUnclosed, NoCalls, RecordsFirst, RegistersAtMost};
 ghost use Rattle.std.specs.List.{AllByRecursion};
 ghost use Rattle.xet_dedup_queries.specs.Registering.{IsDue};
 ghost use Rattle.xet_shard_format.specs.Records.{IsFile};
@@ -29,7 +29,7 @@ pub(crate) fn close<S: Stepping>(
     ensures closes { OnOk result (Closes aggregate next.now (S.holder steps.old) (S.holder steps.new)) }
     ensures follows { Follows (S.holder steps.old) (S.holder steps.new) }
     ensures few { IsAtMost (2 * length aggregate.chunks + 2 * length aggregate.files) (S.holder steps.old) (S.holder steps.new) }
-    ensures refused { IfErr result (IsUnclosed aggregate next.now (S.holder steps.old) (S.holder steps.new)) }
+    ensures refused { IfErr result (IsUnclosed (RegistersAtMost aggregate next.now) aggregate next.now (S.holder steps.old) (S.holder steps.new)) }
 {
     let is_empty = has_no_chunks(&aggregate);
     let (xorb, files) = aggregate.finalize()?;
@@ -56,7 +56,7 @@ fn complete_all<S: Stepping>(
     ensures completed { OnOk result (Completes (map (λ f. f.1) files.items) (S.holder steps.old) (S.holder steps.new)) }
     ensures follows { Follows (S.holder steps.old) (S.holder steps.new) }
     ensures few { IsAtMost (2 * length files.items) (S.holder steps.old) (S.holder steps.new) }
-    ensures first { RecordsFirst (map (λ f. f.1) files.items) (S.holder steps.old) (S.holder steps.new) }
+    ensures first { RecordsFirst NoCalls (map (λ f. f.1) files.items) (S.holder steps.old) (S.holder steps.new) }
     ensures refused { IfErr result (IsClosingError (map (λ f. f.1) files.items) (S.holder steps.old) (S.holder steps.new)) }
 {
     for (_, file, _) in files {

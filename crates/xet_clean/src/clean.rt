@@ -7,7 +7,7 @@ ghost use Rattle.xet_aggregate.specs.Aggregate.{empty};
 ghost use Rattle.xet_aggregate.specs.Metrics.{zeros};
 ghost use Rattle.xet_clean.specs.Cleaning.{Grows, HasReason, IsBounded, IsCleaned};
 ghost use Rattle.xet_steps.specs.Holders.{Follows};
-ghost use Rattle.xet_clean.specs.Sources.{AreRead, IsCutShort, IsLoopError};
+ghost use Rattle.xet_clean.specs.Sources.{AreRead, IsLoopError, IsShort};
 ghost use Rattle.xet_clean.specs.Working.{EndsWith, Planned};
 ghost use Rattle.xet_store.specs.Cleaning.{Adds, AreTaken, EachTold, HasFile, Keeps, Later, chunkings, info_of};
 ghost use Rattle.xet_store.specs.Separate.{Separate};
@@ -65,7 +65,8 @@ pub fn clean_files<D: Disk, R: Source + Send>(
     // failed: so a file is recorded if and only if its entry stands, and a flush comes only before an entry that makes it due,
     // or before the step that failed. No step failed if there is no error or one of a source; after `Io(Disk)` the last one
     // failed, by the disk. New records follow the earlier ones; if Ok, each is under the hash of a source, and after an error,
-    // each is that of a file of all that was taken of a source.
+    // each is that of a file of all that was taken of a source, which has a plan as above. Also after an error at most one xorb,
+    // the last, was registered without further chunks.
     ensures keeps { Keeps session.store result.0.store }
     ensures steps { Grows (result_err result.1) session result.0 }
     ensures adds { IfOk result.1 (λ cleaned. Adds session.store.records result.0.store.records (map (λ info. info.hash) cleaned.infos.items)) }
@@ -128,7 +129,7 @@ fn clean_all<S: Stepping, R: Source>(
     ensures cleaned { IfOk result.1 (λ cleaned. (files : List Planned) × EndsWith policy.now R.tells R.left sources.old (S.holder asking.steps) (S.holder result.0.steps) files cleaned.infos.items cleaned.choices.items cleaned.metrics) }
     ensures read { OnOk result.1 (AreRead R.tells R.left (S.holder asking.steps).limits.max_source_bytes sources.old sources.new) }
     ensures follows { Follows (S.holder asking.steps) (S.holder result.0.steps) }
-    ensures bound { IfErr result.1 (IsCutShort policy.now R.tells R.left sources.old sources.new (S.holder asking.steps) (S.holder result.0.steps)) }
+    ensures bound { IfErr result.1 (IsShort policy.now R.tells R.left sources.old sources.new (S.holder asking.steps) (S.holder result.0.steps)) }
     ensures sources_tell { map R.tells sources.new ≡ map R.tells sources.old }
     ensures sources_taken { AreTaken R.tells R.left sources.old sources.new }
     ensures sources_later { Later R.faults sources.old sources.new }
@@ -155,7 +156,7 @@ fn clean_rest<S: Stepping, R: Source>(
     ensures cleaned { IfOk result.1 (λ cleaned. (files : List Planned) × EndsWith policy.now R.tells R.left sources.old (S.holder asking.steps) (S.holder result.0.steps) files cleaned.infos.items cleaned.choices.items cleaned.metrics) }
     ensures read { OnOk result.1 (AreRead R.tells R.left (S.holder asking.steps).limits.max_source_bytes sources.old sources.new) }
     ensures follows { Follows (S.holder asking.steps) (S.holder result.0.steps) }
-    ensures bound { IfErr result.1 (IsCutShort policy.now R.tells R.left sources.old sources.new (S.holder asking.steps) (S.holder result.0.steps)) }
+    ensures bound { IfErr result.1 (IsShort policy.now R.tells R.left sources.old sources.new (S.holder asking.steps) (S.holder result.0.steps)) }
     ensures sources_tell { map R.tells sources.new ≡ map R.tells sources.old }
     ensures sources_taken { AreTaken R.tells R.left sources.old sources.new }
     ensures sources_later { Later R.faults sources.old sources.new }

@@ -5,7 +5,7 @@ ghost use Rattle.std.specs.List.{AllByRecursion};
 ghost use Rattle.std.specs.Result.{result_err};
 ghost use Rattle.xet_aggregate.specs.Aggregate.{empty};
 ghost use Rattle.xet_aggregate.specs.Metrics.{zeros};
-ghost use Rattle.xet_clean.specs.Sources.{AreRead, IsCutShort, IsLoopError};
+ghost use Rattle.xet_clean.specs.Sources.{AreRead, IsLoopError, IsShort};
 ghost use Rattle.xet_clean.specs.Working.{EndsWith, Planned};
 ghost use Rattle.xet_steps.specs.Holders.{Follows};
 ghost use Rattle.xet_choices.specs.declared.choice.Choice.{Choice};
@@ -157,7 +157,7 @@ fn clean_one<S: Stepping, R: Source>(
     ensures cleaned { IfOk result.1 (λ cleaned. (files : List Planned) × EndsWith policy.now R.tells R.left (source.old ∷ []) (S.holder asking.steps) (S.holder result.0.steps) files cleaned.infos.items cleaned.choices.items cleaned.metrics) }
     ensures read { OnOk result.1 (AreRead R.tells R.left (S.holder asking.steps).limits.max_source_bytes (source.old ∷ []) (source.new ∷ [])) }
     ensures follows { Follows (S.holder asking.steps) (S.holder result.0.steps) }
-    ensures bound { IfErr result.1 (IsCutShort policy.now R.tells R.left (source.old ∷ []) (source.new ∷ []) (S.holder asking.steps) (S.holder result.0.steps)) }
+    ensures bound { IfErr result.1 (IsShort policy.now R.tells R.left (source.old ∷ []) (source.new ∷ []) (S.holder asking.steps) (S.holder result.0.steps)) }
     ensures frame { Stays R.tells R.faults source.old source.new }
     ensures taken { AreTaken R.tells R.left (source.old ∷ []) (source.new ∷ []) }
     ensures refused { IfErr result.1 (IsLoopError R.tells R.left R.faults (source.old ∷ []) (source.new ∷ []) (S.holder asking.steps) (S.holder result.0.steps)) }
@@ -182,7 +182,7 @@ fn clean_only<S: Stepping, R: Source>(
     ensures cleaned { IfOk result.1 (λ cleaned. (files : List Planned) × EndsWith policy.now R.tells R.left (source.old ∷ []) (S.holder asking.steps) (S.holder result.0.steps) files cleaned.infos.items cleaned.choices.items cleaned.metrics) }
     ensures read { OnOk result.1 (AreRead R.tells R.left (S.holder asking.steps).limits.max_source_bytes (source.old ∷ []) (source.new ∷ [])) }
     ensures follows { Follows (S.holder asking.steps) (S.holder result.0.steps) }
-    ensures bound { IfErr result.1 (IsCutShort policy.now R.tells R.left (source.old ∷ []) (source.new ∷ []) (S.holder asking.steps) (S.holder result.0.steps)) }
+    ensures bound { IfErr result.1 (IsShort policy.now R.tells R.left (source.old ∷ []) (source.new ∷ []) (S.holder asking.steps) (S.holder result.0.steps)) }
     ensures frame { Stays R.tells R.faults source.old source.new }
     ensures taken { AreTaken R.tells R.left (source.old ∷ []) (source.new ∷ []) }
     ensures refused { IfErr result.1 (IsLoopError R.tells R.left R.faults (source.old ∷ []) (source.new ∷ []) (S.holder asking.steps) (S.holder result.0.steps)) }

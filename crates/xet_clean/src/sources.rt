@@ -1,6 +1,7 @@
 //! The sources are read in turn, and what was made of each file is added.
 
 ghost use Rattle.std.specs.Prelude.{◌≡◌, ◌≤◌, ◌<◌, ◌+◌, ◌*◌, ◌^◌, ◌++◌, ◌∷◌, [], ℕ, Err, List, IfErr, IfOk, IsErr, IsOkUnless, OnErr, OnOk, length, map, vec_capacity, vec_len, true, false};
+ghost use Rattle.std.specs.List.{AllByRecursion};
 ghost use Rattle.xet_aggregate.specs.Aggregate.{empty};
 ghost use Rattle.xet_aggregate.specs.Metrics.{zeros};
 ghost use Rattle.xet_clean.specs.Cleaner.{IsCleaning};
@@ -9,6 +10,7 @@ ghost use Rattle.xet_clean.specs.Planning.{IsFew, IsFinished};
 ghost use Rattle.xet_clean.specs.Policies.{IfComputed, sha256_by};
 ghost use Rattle.xet_clean.specs.Sources.{HasCleaned, IsCutShort, IsLoopError, IsSourceError, Takes};
 ghost use Rattle.xet_clean.specs.Working.{IsAdded, IsWorking, Planned};
+ghost use Rattle.xet_dedup_queries.specs.Counting.{HasNext};
 ghost use Rattle.xet_file_plan.specs.Moves.{PlanState};
 ghost use Rattle.xet_io.specs.Frame.{Stays};
 ghost use Rattle.xet_steps.specs.Holders.{Follows, FollowsAsking, Holder};
@@ -43,7 +45,7 @@ pub fn clean_each<S: Stepping, R: Source, H: FileDigest>(
     requires room { (length sources.old ≤ vec_capacity working.cleaned.infos) × (length sources.old ≤ vec_capacity working.cleaned.choices) }
     ensures cleaned { IfOk result.1 (λ w. HasCleaned policy.now R.tells R.left R.faults sources.old sources.new (S.holder asking.steps) (S.holder result.0.steps) w.cleaned.infos.items w.cleaned.choices.items w.cleaned.metrics w.aggregate) }
     ensures follows { Follows (S.holder asking.steps) (S.holder result.0.steps) }
-    ensures bound { IfErr result.1 (IsCutShort policy.now R.tells R.left sources.old sources.new (S.holder asking.steps) (S.holder result.0.steps)) }
+    ensures bound { IfErr result.1 (IsCutShort [] policy.now R.tells R.left sources.old sources.new (S.holder asking.steps) (S.holder result.0.steps)) }
     ensures sources_tell { map R.tells sources.new ≡ map R.tells sources.old }
     ensures sources_taken { AreTaken R.tells R.left sources.old sources.new }
     ensures sources_later { Later R.faults sources.old sources.new }
@@ -85,7 +87,7 @@ pub(crate) fn keep<S: Stepping>(
     ensures grown { OnOk result ((vec_len working.new.cleaned.infos ≡ vec_len working.old.cleaned.infos + 1) × (vec_len working.new.cleaned.choices ≡ vec_len working.old.cleaned.choices + 1)) }
     ensures follows { Follows (S.holder steps.old) (S.holder steps.new) }
     ensures few { IsAtMost (2 * length working.old.aggregate.chunks + 2 * length working.old.aggregate.files) (S.holder steps.old) (S.holder steps.new) }
-    ensures refused { IfErr result (λ e. IfOk file (λ f. IsUnclosed working.old.aggregate (map chunk_leaf f.rest.chunks) (S.holder steps.old) (S.holder steps.new) e)) }
+    ensures refused { IfErr result (λ e. IfOk file (λ f. IsUnclosed (AllByRecursion HasNext) working.old.aggregate (map chunk_leaf f.rest.chunks) (S.holder steps.old) (S.holder steps.new) e)) }
     ensures kept { IfErr file (λ e. (result ≡ Err e) × (S.holder steps.new ≡ S.holder steps.old)) }
 {
     match file {

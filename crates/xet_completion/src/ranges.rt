@@ -4,7 +4,7 @@ ghost use Rattle.std.specs.Prelude.{◌≡◌, ◌⊎◌, ◌↔◌, [], IsTrue,
 ghost use Rattle.xet_hash.specs.Merkle.{range_hash};
 ghost use Rattle.xet_dedup.specs.Records.{range_hashes, run_len};
 
-use xet_hash::{DataHasher, MerkleHash, VERIFICATION_KEY};
+use xet_hash::{MerkleHash, range_hash};
 use xet_shard_format::{FileDataSequenceEntry, FileVerificationEntry, MDBFileInfo};
 
 /// Whether the verification rows of a file that resolves to these chunks are right: there are none, or they have its range
@@ -52,15 +52,4 @@ fn run_len(segment: &FileDataSequenceEntry) -> usize
     segment
         .chunk_index_end
         .saturating_sub(segment.chunk_index_start) as usize
-}
-
-/// The range hash of these chunks. Allocates nothing.
-fn range_hash(leaves: &[(MerkleHash, u64)]) -> MerkleHash
-    ensures { result ≡ range_hash (map (λ m. m.0) leaves.now) }
-{
-    let mut hasher = DataHasher::new(VERIFICATION_KEY);
-    for (hash, _) in leaves {
-        hasher.update(hash.as_bytes());
-    }
-    hasher.finish()
 }

@@ -1,4 +1,4 @@
-//! Theorems about the definitions. Each is the contract of a function that does nothing.
+//! Theorems about the definitions. Each is the contract of a function that does nothing. Two are those of crates below.
 
 ghost use Rattle.std.specs.Prelude.{◌≡◌, ◌<◌, ◌≤◌, ◌+◌, ◌-◌, ◌*◌, ◌^◌, ◌++◌, ℕ, Bool, List, [], Option, length, map, min};
 ghost use Rattle.std.specs.List.{AllByRecursion};
@@ -22,6 +22,8 @@ ghost use Rattle.xet_shard_format.specs.declared.record.MDBFileInfo.{MDBFileInfo
 ghost use Rattle.xet_xorb_chunk.specs.Chunks.{chunk_leaf};
 ghost use Rattle.xet_xorb_chunk.specs.declared.chunk.Chunk.{Chunk};
 
+pub use xet_aggregate::laws::merging_is_associative;
+pub use xet_cut::laws::chunks_of_all_pieces;
 use xet_dedup_queries::DeduplicationDataInterface;
 
 /// Each chunk and each byte of a file is deduplicated or new. The metrics of a file are the sums of those of its batches, if

@@ -16,11 +16,12 @@ pub use deduper::FileDeduper;
 pub use finalizing::Finalized;
 pub use packing::{chunks_of, pack_len};
 pub use records::file_record;
-pub use xet_aggregate::{DataAggregator, DeduplicationMetrics};
+pub use xet_aggregate::{DataAggregator, DeduplicationMetrics, PendingFile};
 pub use xet_choices::Choice;
 pub use xet_cut::{
     Chunker, LimitSettings, Limits, chunk_lengths, chunk_list, find_partitions, first_chunk_len,
     gear_table, generated,
 };
-pub use xet_dedup_queries::{DedupError, DeduplicationDataInterface, FileXorbDependency};
+pub use xet_dedup_queries::{Acts, DedupError, DeduplicationDataInterface, FileXorbDependency};
+pub use xet_file_plan::FilePlan;
 pub use xet_fragmentation::DefragPrevention;

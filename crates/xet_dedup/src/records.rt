@@ -7,7 +7,7 @@ ghost use Rattle.xet_dedup.specs.Records.{file_record, range_hashes, run_len};
 
 use std::alloc::Global;
 use xet_base::Items;
-use xet_hash::{MerkleHash, StoreError, range_hash_from_chunks};
+use xet_hash::{MerkleHash, StoreError, range_hash};
 use xet_shard_format::{
     FileDataSequenceEntry, FileDataSequenceHeader, FileMetadataExt, FileVerificationEntry,
     MDBFileInfo, Sha256,
@@ -79,8 +79,7 @@ fn range_hashes(
     for segment in plan {
         let run = run_len(segment).min(rest.len());
         let (prefix, back) = rest.split_at(run);
-        let hashes = hashes_of(alloc, prefix)?;
-        ranges.push(FileVerificationEntry::new(range_hash_from_chunks(&hashes)))?;
+        ranges.push(FileVerificationEntry::new(range_hash(prefix)))?;
         rest = back;
     }
     Ok(ranges)

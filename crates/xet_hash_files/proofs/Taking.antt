@@ -43,6 +43,10 @@ takes_all tells left mid rest bytes buffer count is fills lt = record {
 pub takes_some : (tells : Bool) (left rest bytes : List ℕ) → Takes true tells left rest bytes → Takes false tells left rest bytes
 takes_some tells left rest bytes is = record { taken = is.taken; ended = λ e. absurd (true≢false (sym e)) }
 
+-- what a read that failed has taken
+pub failed_takes : (left buffer rest : List ℕ) → ((n : ℕ) × (n ≤ length buffer) × (rest ≡ drop n left)) → (n : ℕ) × (rest ≡ drop n left)
+failed_takes left buffer rest (n, few, taken) = (n, taken)
+
 -- a read that failed, by which bytes may be lost
 pub takes_lost : (tells : Bool) (left mid rest bytes : List ℕ) → Takes false tells left mid bytes → (tells ≡ true → (n : ℕ) × (rest ≡ drop n mid)) → (all : List ℕ) × Takes false tells left rest all
 takes_lost true left mid rest bytes is lost =

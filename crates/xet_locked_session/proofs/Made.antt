@@ -26,11 +26,14 @@ use Rattle.xet_shard_format.specs.RecordSizes.{file_record_size, xorb_record_siz
 use Rattle.xet_shard_format.specs.Records.{file_record_hash}
 use Rattle.xet_shard_format.specs.declared.record.FileDataSequenceEntry.{FileDataSequenceEntry as Segment}
 use Rattle.xet_shard_format.specs.declared.record.MDBFileInfo.{MDBFileInfo}
+use Rattle.xet_steps.specs.Changes.{ChangesFiles}
 use Rattle.xet_steps.specs.Recorded.{RecordedState, core_of}
 use Rattle.xet_steps.specs.Steps.{FailsAsking, IsOtherFile, IsStepError, Refuses, Steps, fault_entries}
+use Rattle.xet_steps.specs.theorems.Changing.{changes_unread}
 use Rattle.xet_steps.specs.theorems.Joining.{steps_nothing}
 use Rattle.xet_store.specs.Asking.{IsAskingError}
 use Rattle.xet_store.specs.Flushing.{IsFlushed}
+use Rattle.xet_store.specs.Ranges.{IsUnchanged}
 use Rattle.xet_store.specs.Store.{State}
 use Rattle.xet_xorb.specs.Raw.{xorb_record}
 use Rattle.xet_locked_session.specs.Session.{HasRisenBy, fault_count}
@@ -214,19 +217,19 @@ nothing_refused pass k cut s = record { done = []; completed = inl refl; steps =
 
 pub queried_of : (pass : ℕ) (hashes : List (List ℕ)) (old new : RecordedState) (r : Result (Option (ℕ × Segment)) StoreError) → (old.store.tells ≡ true → IfOk r (λ run. run ≡ found_run (core_of old) hashes))
     → ((run : ℕ × Segment) → held_run old.store.pending.blocks hashes ≡ Some run → IfOk r (λ found. found ≡ Some run)) → IfOk r (λ run. IfSome run (IsUsableRun old.store.xorbs hashes)) → IfOk r (λ run. Steps old new (query_entries pass hashes run))
-    → IfOk r (Queried pass hashes old new)
-queried_of pass hashes old new (Ok run) found pending lies steps = record { steps = steps; usable = lies; pending = pending; found = found }
-queried_of pass hashes old new (Err e) found pending lies steps = tt
+    → IsUnchanged old.store new.store → IfOk r (Queried pass hashes old new)
+queried_of pass hashes old new (Ok run) found pending lies steps unchanged = record { steps = steps; changes = changes_unread old new (query_entries pass hashes run) unchanged; usable = lies; pending = pending; found = found }
+queried_of pass hashes old new (Err e) found pending lies steps unchanged = tt
 
 pub registered_of : (pass : ℕ) (leaves next : List (List ℕ × ℕ)) (old new : RecordedState) (r : Result Bool StoreError) → OnOk r (Steps old new (register_entries pass (core_of old) old.store.limits.shard_target leaves next))
-    → IfOk r (λ added. added ≡ is_new old.store.xorbs (xorb_hash leaves)) → OnOk r (IsListed new.store.xorbs (xorb_hash leaves) leaves) → OnOk r (xorb_hash leaves ≢ sentinel) → IfOk r (Registered pass leaves next old new)
-registered_of pass leaves next old new (Ok added) steps new_hash listed named = record { steps = steps; new_hash = new_hash; listed = listed; named = named }
-registered_of pass leaves next old new (Err e) steps new_hash listed named = tt
+    → OnOk r (ChangesFiles [] old new (register_entries pass (core_of old) old.store.limits.shard_target leaves next)) → IfOk r (λ added. added ≡ is_new old.store.xorbs (xorb_hash leaves)) → OnOk r (IsListed new.store.xorbs (xorb_hash leaves) leaves) → OnOk r (xorb_hash leaves ≢ sentinel) → IfOk r (Registered pass leaves next old new)
+registered_of pass leaves next old new (Ok added) steps changes new_hash listed named = record { steps = steps; changes = changes; new_hash = new_hash; listed = listed; named = named }
+registered_of pass leaves next old new (Err e) steps changes new_hash listed named = tt
 
 pub completed_of : (pass : ℕ) (file : MDBFileInfo) (old new : RecordedState) (r : Result Bool StoreError) → OnOk r (Steps old new (complete_entries pass (core_of old) old.store.limits.shard_target file))
-    → IfOk r (λ added. added ≡ is_new old.store.records (file_record_hash file)) → OnOk r (Completes old.store.xorbs file) → IfOk r (Completed pass file old new)
-completed_of pass file old new (Ok added) steps new_hash can = record { steps = steps; new_hash = new_hash; can = can }
-completed_of pass file old new (Err e) steps new_hash can = tt
+    → OnOk r (ChangesFiles [] old new (complete_entries pass (core_of old) old.store.limits.shard_target file)) → IfOk r (λ added. added ≡ is_new old.store.records (file_record_hash file)) → OnOk r (Completes old.store.xorbs file) → IfOk r (Completed pass file old new)
+completed_of pass file old new (Ok added) steps changes new_hash can = record { steps = steps; changes = changes; new_hash = new_hash; can = can }
+completed_of pass file old new (Err e) steps changes new_hash can = tt
 
 pub flushed_of : (pass : ℕ) (old new : RecordedState) (r : Result (Option (List ℕ)) StoreError) → OnOk r (Steps old new (flush_entries pass (core_of old))) → IfOk r (λ h. (h ≡ None) ↔ (old.store.pending ≡ nothing))
     → IfOk r (λ h. IfSome h (λ shard. IsFlushed old.store shard new.store)) → IfOk r (Flushed pass old new)

@@ -10,6 +10,7 @@ use Rattle.xet_history.specs.declared.entry.Entry.{Entry}
 use Rattle.xet_shard_format.specs.Records.{IsFile}
 use Rattle.xet_shard_format.specs.declared.record.FileDataSequenceEntry.{FileDataSequenceEntry as Segment}
 use Rattle.xet_shard_format.specs.declared.record.MDBFileInfo.{MDBFileInfo}
+use Rattle.xet_steps.specs.Changes.{ChangesFiles, files_of}
 use Rattle.xet_steps.specs.Recorded.{RecordedState, core_of}
 use Rattle.xet_steps.specs.Steps.{fault_entries}
 use Rattle.xet_steps.specs.Alone.{MayBeAsked, Step, cut_of, kind_of}
@@ -43,15 +44,24 @@ pub record StepsByUntil (limits : LimitSettings) (c : Core) (error : StoreError)
   pub completed : (done ≡ []) ⊎ (done ≡ cut_of pass limits.shard_target step (after_all c before))
   pub is : all ≡ before ++ (done ++ fault_entries pass (kind_of step) error)
 
--- Between two states of a store completed steps were made.
+-- the entries of a step, if it is completed, but for the chunks that did not fit into a xorb
+abbrev pub attempted : ℕ → ℕ → Step → Core → List Entry
+attempted pass target Step.asks c = []
+attempted pass target (Step.registers leaves) c = register_entries pass c target leaves []
+attempted pass target (Step.completes file) c = complete_entries pass c target file
+
+-- Between two states of a store completed steps were made. On the disk nothing has changed but the files that their entries
+-- name, and no temporary file is left.
 pub record HaveMade (old new : RecordedState) : Type 0 where
   pub since : List Entry
   pub history : new.history ≡ old.history ++ since
   pub steps : StepsBy old.store.limits (core_of old) since
+  pub changes : ChangesFiles [] old new since
 
--- And one more that failed, and was the last.
+-- And one more that failed, and was the last. Its files may have changed too, and what is under their temporary names.
 pub record HaveEnded (old new : RecordedState) : Type 0 where
   pub since : List Entry
   pub history : new.history ≡ old.history ++ since
   pub error : StoreError
   pub steps : StepsByUntil old.store.limits (core_of old) error since
+  pub changes : ChangesFiles (files_of old.store.folder (attempted steps.pass old.store.limits.shard_target steps.step (after_all (core_of old) steps.before))) old new since

@@ -2,9 +2,11 @@
 
 mod adding_tests;
 mod cache_tests;
+mod capped_tests;
 mod consolidating_tests;
 mod cutting_tests;
 mod exports;
+mod face_tests;
 mod failing_tests;
 mod filling_tests;
 mod import_tests;

@@ -1,5 +1,6 @@
 -- How the commands end that are not `pack`.
-use Rattle.std.proofs.Common.{◌≡◌, ◌∙◌, inl, inr, ℕ, ◌+◌, ◌-◌, ◌<◌, ◌≤◌, true, List, [], ◌∷◌, length, map, replicate, Option, Some, Result, Ok, Err, IfErr, IfOk, OnOk, Vec, Global, unwrap_or, subst, refl, sym, ap, arith}
+use Rattle.std.proofs.Common.{◌≡◌, ◌∙◌, inl, inr, ℕ, ◌+◌, ◌-◌, ◌<◌, ◌≤◌, true, false, List, [], ◌∷◌, length, map, replicate, Option, Some, Result, Ok, Err, IfErr, IfOk, OnOk, Vec, Global, unwrap_or, subst, refl, sym, ap, arith}
+use Rattle.std.proofs.lemmas.Bool.{false≢true}
 use Rattle.std.proofs.lemmas.List.{length-replicate}
 use Rattle.std.specs.FinMap.{get}
 use Rattle.std.specs.List.{flat_map}
@@ -8,21 +9,23 @@ use Rattle.xet_group.specs.Groups.{grouped}
 use Rattle.xet_io.specs.Disk.{Files, entry_at}
 use Rattle.xet_io.specs.Named.{Named}
 use Rattle.xet_folder.specs.Names.{IsForeign}
+use Rattle.xet_folder.specs.declared.contents.Contents.{Contents}
 use Rattle.xet_store.specs.Store.{Differ, recorded_files}
 use Rattle.xet_program.specs.declared.ending.Stop.{Stop}
 use Rattle.xet_program.specs.declared.ending.Stop.TheVariants as stop
 use Rattle.xet_program.specs.internal.Answered.{Answered}
 use Rattle.xet_program.specs.Answers.{AreNamed, CleanAnswer, IsRangeOf, ReadAnswer, listed_line}
 use Rattle.xet_program.specs.Early.{Outcome, group_outcome, max_input, outcome}
-use Rattle.xet_program.specs.Ending.{MayEnd}
+use Rattle.xet_program.specs.Ending.{CanOpen, HasOpened, MayEnd}
 use Rattle.xet_program.specs.Start.{LacksName, Start}
 use Rattle.xet_program.specs.Stored.{AreStored, IsAdmittedAt, KeepsFolder, KeepsListed}
-use Rattle.xet_program.specs.Reasons.{AreApart, IsFull, IsMalformed}
+use Rattle.xet_program.specs.Reasons.{AreApart, IsMalformed}
 use Rattle.xet_program.specs.Making.{IsMadeText}
 use Rattle.xet_program.specs.Tasks.{IsIdle, default_limits, store_folder}
 use Rattle.xet_program.specs.Words.Command.{Clean, Group, ListFiles, Make, Read}
 use Rattle.xet_program.specs.internal.Cleaned.{IsCleanText}
 use Rattle.xet_program.specs.internal.Stops.{ForValid, IsStop, answer_outcome, cleaning_store_causes, folder_causes, grouping_causes, making_causes, reading_range_causes}
+use Rattle.xet_program.proofs.Absent.{none_absent}
 use Rattle.xet_program.proofs.Answered.{malformed_of_ten, none_stored, works_same}
 use Rattle.xet_program.proofs.Endings.{group_long, group_short}
 
@@ -42,30 +45,26 @@ module _ (start : Start) (new : Files) where
   abbrev Listed : List ℕ → Type 0
   Listed text = ForValid start.tells start.files start.now (λ contents. Differ (recorded_files contents.records) × (text ≡ flat_map listed_line (recorded_files contents.records)))
 
-  -- the folder at the end is that at the start
-  full_same : new ≡ start.files → (start.tells ≡ true → IsFull start.files start.now) → start.tells ≡ true → IsFull new start.now
-  full_same same many told = subst (λ (x : Files). IsFull x start.now) (sym same) (many told)
-
-  end_list : (r : Answer) → new ≡ start.files → IfOk r (λ text. Listed text.items) → IfErr r (IsStop (folder_causes start.tells start.now start.files)) → MayEnd (Some ListFiles) start new (answer_outcome r)
-  end_list (Ok t) same (contents, valid, listed) stop = MayEnd.answered (λ observes. refl) record {
+  end_list : (r : Answer) → IfOk r (λ text. Listed text.items) → IfErr r (IsStop (folder_causes start.tells start.now start.files)) → MayEnd (Some ListFiles) start new (answer_outcome r)
+  end_list (Ok t) (contents, valid, listed) stop = MayEnd.answered (λ observes. refl) record {
     asked = ListFiles;
     is = refl;
     contents = contents;
     valid = valid;
     answer = record { rows = recorded_files contents.records; listed = λ told. refl; differ = listed.0; is = ap (outcome 0) listed.1 };
   }
-  end_list (Err stop.OutOfMemory) same listed h = MayEnd.stopped (inl refl) refl
-  end_list (Err stop.Disk) same listed h = MayEnd.stopped (inr (inr (inr (refl, tt, λ observes. refl)))) refl
-  end_list (Err (stop.BadShard name)) same listed h = MayEnd.refused tt (λ observes. refl) record { name = name; named = h.0; fails = h.1; is = refl }
-  end_list (Err stop.Input) same listed h = absurd h
-  end_list (Err stop.TooLarge) same listed h = MayEnd.full tt (λ observes. refl) (full_same same h) refl
-  end_list (Err stop.NotFound) same listed h = absurd h
-  end_list (Err stop.Malformed) same listed h = absurd h
-  end_list (Err (stop.BadLine n)) same listed h = absurd h
+  end_list (Err stop.OutOfMemory) listed h = MayEnd.stopped (inl refl) refl
+  end_list (Err stop.Disk) listed h = MayEnd.stopped (inr (inr (inr (refl, tt, λ observes. refl)))) refl
+  end_list (Err (stop.BadShard name)) listed h = MayEnd.refused tt (λ observes. refl) record { name = name; named = h.0; fails = h.1; is = refl }
+  end_list (Err stop.Input) listed h = absurd h
+  end_list (Err stop.TooLarge) listed h = MayEnd.too_many tt (λ observes. refl) h refl
+  end_list (Err stop.NotFound) listed h = absurd h
+  end_list (Err stop.Malformed) listed h = absurd h
+  end_list (Err (stop.BadLine n)) listed h = absurd h
 
   pub answered_list : (r : Answer) → new ≡ start.files → IfOk r (λ text. Listed text.items) → IfErr r (IsStop (folder_causes start.tells start.now start.files)) → Answered (Some ListFiles) start new (answer_outcome r)
   answered_list r same listed stop = record {
-    ends = end_list r same listed stop;
+    ends = end_list r listed stop;
     works = works_same (Some ListFiles) start new (answer_outcome r).status same (λ nought. none_stored default_limits start.now start.files new) (λ ten. absurd (malformed_of_ten (IsStop (folder_causes start.tells start.now start.files)) r stop ten));
   }
 
@@ -78,20 +77,24 @@ module _ (start : Start) (new : Files) where
     abbrev Causes : Stop → Type 0
     Causes reason = IsStop (reading_range_causes start.tells start.now start.files h from to) reason
 
-    end_read : (r : Answer) → new ≡ start.files → OnOk r (from ≤ to) → IfOk r (λ bytes. length bytes.items ≡ to - from) → IfOk r (λ bytes. IsRead bytes.items) → IfErr r Causes → MayEnd (Some (Read h from to)) start new (answer_outcome r)
-    end_read (Ok t) same ordered len (contents, valid, is) stop = MayEnd.answered (λ observes. refl) record { asked = Read h from to; is = refl; contents = contents; valid = valid; answer = ReadAnswer.read refl ordered len is }
-    end_read (Err stop.OutOfMemory) same ordered len is c = MayEnd.stopped (inl refl) refl
-    end_read (Err stop.Disk) same ordered len is c = MayEnd.stopped (inr (inr (inr (refl, tt, λ observes. refl)))) refl
-    end_read (Err (stop.BadShard name)) same ordered len is c = MayEnd.refused tt (λ observes. refl) record { name = name; named = c.0; fails = c.1; is = refl }
-    end_read (Err stop.NotFound) same ordered len is (contents, valid, none) = MayEnd.answered (λ observes. refl) record { asked = Read h from to; is = refl; contents = contents; valid = valid; answer = ReadAnswer.none (λ told. none) refl }
-    end_read (Err stop.Malformed) same ordered len is c = MayEnd.malformed tt (λ observes. refl) c refl
-    end_read (Err stop.Input) same ordered len is c = absurd c
-    end_read (Err stop.TooLarge) same ordered len is c = MayEnd.full tt (λ observes. refl) (full_same same c) refl
-    end_read (Err (stop.BadLine n)) same ordered len is c = absurd c
+    -- no name is opened, and the folder could be opened if the disk were observable
+    read_opened : start.tells ≡ false → HasOpened (Some (Read h from to)) start
+    read_opened never = record { early = λ observes. refl; folder = λ told. absurd (false≢true (sym never ∙ told)); names = λ inputs_told lacks. lacks }
+
+    end_read : (r : Answer) → OnOk r (from ≤ to) → IfOk r (λ bytes. length bytes.items ≡ to - from) → IfOk r (λ bytes. IsRead bytes.items) → IfErr r Causes → MayEnd (Some (Read h from to)) start new (answer_outcome r)
+    end_read (Ok t) ordered len (contents, valid, is) stop = MayEnd.answered (λ observes. refl) record { asked = Read h from to; is = refl; contents = contents; valid = valid; answer = ReadAnswer.read refl ordered len is }
+    end_read (Err stop.OutOfMemory) ordered len is c = MayEnd.stopped (inl refl) refl
+    end_read (Err stop.Disk) ordered len is c = MayEnd.stopped (inr (inr (inr (refl, tt, λ observes. refl)))) refl
+    end_read (Err (stop.BadShard name)) ordered len is c = MayEnd.refused tt (λ observes. refl) record { name = name; named = c.0; fails = c.1; is = refl }
+    end_read (Err stop.NotFound) ordered len is (contents, valid, none) = MayEnd.answered (λ observes. refl) record { asked = Read h from to; is = refl; contents = contents; valid = valid; answer = ReadAnswer.none (λ told. none) refl }
+    end_read (Err stop.Malformed) ordered len is c = MayEnd.malformed (read_opened c) c refl
+    end_read (Err stop.Input) ordered len is c = absurd c
+    end_read (Err stop.TooLarge) ordered len is c = MayEnd.too_many tt (λ observes. refl) c refl
+    end_read (Err (stop.BadLine n)) ordered len is c = absurd c
 
     pub answered_read : (r : Answer) → new ≡ start.files → OnOk r (from ≤ to) → IfOk r (λ bytes. length bytes.items ≡ to - from) → IfOk r (λ bytes. IsRead bytes.items) → IfErr r Causes → Answered (Some (Read h from to)) start new (answer_outcome r)
     answered_read r same ordered len is stop = record {
-      ends = end_read r same ordered len is stop;
+      ends = end_read r ordered len is stop;
       works = works_same (Some (Read h from to)) start new (answer_outcome r).status same (λ nought. none_stored default_limits start.now start.files new) (malformed_of_ten Causes r stop);
     }
 
@@ -114,8 +117,16 @@ module _ (start : Start) (new : Files) where
         ap (λ (o : Option (List ℕ)). unwrap_or o [] ∷ map (λ name. unwrap_or (get inputs name) []) ns) here ∙ ap (λ (xs : List (List ℕ)). f ∷ xs) (named_are inputs ns fs rest)
 
     malformed_clean : CleanCauses stop.Malformed → IsMalformed (Some (Clean names)) start new
-    malformed_clean c = λ observes told apart.
-        let m = c (observes.1 tt) told in m.2 (subst (λ (fs : List (List ℕ)). AreApart new start.now default_limits fs) (named_are start.inputs names m.0 m.1) apart)
+    malformed_clean (contents, valid, c) = λ observes told apart.
+        let m = c (observes.1 tt) in m.2 told (subst (λ (fs : List (List ℕ)). AreApart new start.now default_limits fs) (named_are start.inputs names m.0 m.1) apart)
+
+    -- the folder was opened, and all names were found
+    clean_opened : (contents : Contents) → (start.tells ≡ true → CanOpen start.files start.now contents) → (start.inputs_tell ≡ true → (found : List (List ℕ)) × AreNamed start.inputs names found) → HasOpened (Some (Clean names)) start
+    clean_opened contents valid named = record {
+      early = λ observes. refl;
+      folder = λ told. (contents, valid told, tt);
+      names = λ inputs_told lacks. let n = named inputs_told in none_absent start.inputs names n.0 lacks.0 lacks.1 n.1 lacks.2 lacks.3 lacks.4;
+    }
 
     end_clean : (r : Answer) → IfOk r (λ text. IsCleanOf text.items) → IfErr r CleanCauses → MayEnd (Some (Clean names)) start new (answer_outcome r)
     end_clean (Ok t) (contents, valid, is) stop = MayEnd.answered (λ observes. refl) record {
@@ -123,16 +134,18 @@ module _ (start : Start) (new : Files) where
       is = refl;
       contents = contents;
       valid = valid;
-      answer = CleanAnswer.reported record { files = is.files; named = is.named; count = is.count; status = refl; text = is.lines; stored = is.stored };
+      answer = CleanAnswer.reported record { files = is.files; named = is.named; count = is.count; short = is.short; status = refl; text = is.lines; stored = is.stored };
     }
     end_clean (Err stop.OutOfMemory) is c = MayEnd.stopped (inl refl) refl
     end_clean (Err stop.Input) is (contents, valid, done) = MayEnd.stopped (inr (inr (inl (refl, tt, λ told. (contents, valid told, tt))))) refl
     end_clean (Err stop.Disk) is c = MayEnd.stopped (inr (inr (inr (refl, tt, λ observes. refl)))) refl
     end_clean (Err (stop.BadShard name)) is c = MayEnd.refused tt (λ observes. refl) record { name = name; named = c.0; fails = c.1; is = refl }
     end_clean (Err stop.NotFound) is (contents, valid, none) = MayEnd.answered (λ observes. refl) record { asked = Clean names; is = refl; contents = contents; valid = valid; answer = CleanAnswer.absent none refl }
-    end_clean (Err stop.TooLarge) is (inr many) = MayEnd.full tt (λ observes. refl) many refl
+    end_clean (Err stop.TooLarge) is (inr (inl many)) = MayEnd.too_many tt (λ observes. refl) many refl
+    end_clean (Err stop.TooLarge) is (inr (inr (contents, valid, (named, many)))) = MayEnd.full tt (clean_opened contents valid named) many refl
     end_clean (Err stop.TooLarge) is (inl (contents, valid, long)) = MayEnd.answered (λ observes. refl) record { asked = Clean names; is = refl; contents = contents; valid = valid; answer = CleanAnswer.too_long long refl }
-    end_clean (Err stop.Malformed) is c = MayEnd.malformed tt (λ observes. refl) (malformed_clean c) refl
+    end_clean (Err stop.Malformed) is (contents, valid, c) =
+        MayEnd.malformed (clean_opened contents valid (λ told. let m = c told in (m.0, m.1))) (malformed_clean (contents, valid, c)) refl
     end_clean (Err (stop.BadLine n)) is c = absurd c
 
     stored_clean : (r : Answer) → IfOk r (λ text. IsCleanOf text.items) → start.inputs_tell ≡ true → start.tells ≡ true → (answer_outcome r).status ≡ 0
@@ -176,13 +189,17 @@ module _ (start : Start) (new : Files) where
     abbrev MakeCauses : Stop → Type 0
     MakeCauses reason = IsStop (making_causes start.tells start.now start.files new (generated seed bytes)) reason
 
+    make_opened : (contents : Contents) → (start.tells ≡ true → CanOpen start.files start.now contents) → HasOpened (Some (Make seed bytes)) start
+    make_opened contents valid = record { early = λ observes. refl; folder = λ told. (contents, valid told, tt); names = λ inputs_told lacks. lacks }
+
     end_make : (r : Answer) → IfOk r (λ text. IsMadeOf text.items) → IfErr r MakeCauses → MayEnd (Some (Make seed bytes)) start new (answer_outcome r)
     end_make (Ok t) (contents, valid, is) stop = MayEnd.answered (λ observes. refl) record { asked = Make seed bytes; is = refl; contents = contents; valid = valid; answer = record { status = refl; text = is } }
     end_make (Err stop.OutOfMemory) is c = MayEnd.stopped (inl refl) refl
     end_make (Err stop.Disk) is c = MayEnd.stopped (inr (inr (inr (refl, tt, λ observes. refl)))) refl
     end_make (Err (stop.BadShard name)) is c = MayEnd.refused tt (λ observes. refl) record { name = name; named = c.0; fails = c.1; is = refl }
-    end_make (Err stop.TooLarge) is c = MayEnd.full tt (λ observes. refl) c refl
-    end_make (Err stop.Malformed) is c = MayEnd.malformed tt (λ observes. refl) c refl
+    end_make (Err stop.TooLarge) is (inl many) = MayEnd.too_many tt (λ observes. refl) many refl
+    end_make (Err stop.TooLarge) is (inr (contents, valid, many)) = MayEnd.full tt (make_opened contents valid) many refl
+    end_make (Err stop.Malformed) is (contents, valid, c) = MayEnd.malformed (make_opened contents valid) c refl
     end_make (Err stop.Input) is c = absurd c
     end_make (Err stop.NotFound) is c = absurd c
     end_make (Err (stop.BadLine n)) is c = absurd c
@@ -201,7 +218,7 @@ module _ (start : Start) (new : Files) where
         absent = λ inputs_told told lacks. absurd lacks;
         kept = kept;
         foreign = foreign;
-        malformed = malformed_of_ten MakeCauses r stop;
+        malformed = λ ten. (malformed_of_ten MakeCauses r stop ten).2;
       };
     }
 

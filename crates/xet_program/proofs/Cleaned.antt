@@ -1,6 +1,6 @@
 -- What cleaning files gives.
 use Rattle.std.proofs.Common.{◌≡◌, ◌≢◌, ◌∙◌, inl, inr, ℕ, zero, suc, ◌<◌, ◌≤◌, Bool, true, false, leb, All, List, [], ◌∷◌, ◌++◌, length, map, drop, get_or, is_some, subst, arith, refl, sym, ap}
-use Rattle.std.proofs.lemmas.Bool.{and_parts, cases_lt, false≢true, lt-leb}
+use Rattle.std.proofs.lemmas.Bool.{and_parts, cases_lt, false≢true, le-leb, lt-leb}
 use Rattle.std.proofs.lemmas.List.{drop_at}
 use Rattle.std.proofs.lemmas.List.Elements.{All-from_recursion, recursion_from_All}
 use Rattle.std.proofs.lemmas.List.Sorted.{All-permutation, IsPermutation-sym}
@@ -15,6 +15,7 @@ use Rattle.xet_shard_format.specs.declared.record.MDBFileInfo.{MDBFileInfo}
 use Rattle.xet_io.specs.Faults.{Rose}
 use Rattle.xet_hash.specs.declared.error.StoreError.{StoreError}
 use Rattle.xet_hash.specs.declared.error.StoreError.TheVariants.{Io, MalformedData, TooLarge}
+use Rattle.xet_hash.specs.declared.error.StoreError.TheVariants as error
 use Rattle.xet_hash.specs.declared.error.Place.TheVariants as place
 use Rattle.xet_hash.specs.declared.error.What.TheVariants as what
 use Rattle.xet_cut.specs.declared.limits.LimitSettings.{LimitSettings}
@@ -27,6 +28,7 @@ use Rattle.xet_workers.specs.Cleaning.{AreChosenBy}
 use Rattle.xet_program.specs.declared.ending.Stop.{Stop}
 use Rattle.xet_program.specs.declared.ending.Stop.TheVariants as stop
 use Rattle.xet_program.specs.declared.lines.FileRange.{FileRange}
+use Rattle.xet_program.specs.Allowed.{are_short}
 use Rattle.xet_program.specs.Lines.{numbered, range_bytes}
 use Rattle.xet_program.specs.internal.Parsing.{Said, are_good}
 use Rattle.xet_program.specs.Report.{file_line, hash_of_file}
@@ -108,6 +110,11 @@ module _ {S : Type 0} (tells : S → Bool) (left : S → List ℕ) (faults : S �
   stop_of_reason (TooLarge what.Shards) reason = inr reason.0
   stop_of_reason (TooLarge what.Input) reason = absurd reason
   stop_of_reason (MalformedData r) reason = λ told all apart ends. reason told all ends apart
+  stop_of_reason error.UnexpectedEof reason = absurd reason
+  stop_of_reason error.ChunkHeaderParse reason = absurd reason
+  stop_of_reason error.HashMismatch reason = absurd reason
+  stop_of_reason (error.CompressionError scheme) reason = absurd reason
+  stop_of_reason (error.InvalidShard hash r) reason = absurd reason
   stop_of_reason _ reason = tt
 
   pub rose_of_reason : (e : StoreError) → Reason e → stop_of_error e ≡ stop.Disk → Rose before.store.faults after.store.faults
@@ -129,6 +136,16 @@ long_one tells left most (s ∷ ss) (suc i) all long = by_cases (leb (length (le
     by_cases : (b : Bool) → leb (length (left s)) most ≡ b → list_all (λ x. leb (length x) most) (map left ss) ≡ false → list_all (λ x. leb (length x) most) (map left (s ∷ ss)) ≡ false
     by_cases true t rest = rw (t) rest
     by_cases false t rest = rw (t) refl
+
+-- sources that are all short have short files
+pub short_of_sources : {S : Type 0} (tells : S → Bool) (left : S → List ℕ) (l : LimitSettings) (sources : List S) (files : List (List ℕ)) → EachTold tells left (λ bytes file. file ≡ bytes) sources files
+    → AllByRecursion (λ s. tells s ≡ true → length (left s) ≤ l.max_source_bytes) sources → AllByRecursion (λ s. tells s ≡ true) sources → are_short l files ≡ true
+short_of_sources tells left l [] [] each short all = refl
+short_of_sources tells left l [] (f ∷ fs) each short all = absurd each
+short_of_sources tells left l (s ∷ ss) [] each short all = absurd each
+short_of_sources tells left l (s ∷ ss) (f ∷ fs) each short all =
+    let fits : length f ≤ l.max_source_bytes = omega (arith, ap (λ (x : List ℕ). length x) (each.0 all.0), short.0 all.0) in
+    rw (le-leb (length f) l.max_source_bytes fits) (short_of_sources tells left l ss fs each.1 short.1 all.1)
 
 -- a source in memory never fails
 never_rose : (old new : List (List ℕ)) (i : ℕ) → RoseAt (λ _. 0) old new i → ⊥

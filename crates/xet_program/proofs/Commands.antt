@@ -1,6 +1,6 @@
 -- Words as numbers, gear tables and commands.
-use Rattle.std.proofs.Common.{◌≡◌, ◌≢◌, ◌∙◌, ℕ, zero, suc, ◌*◌, ◌/◌, ◌^◌, ◌<◌, ◌≤◌, Bool, true, false, cond, eqb, ltb, leb, min, lit<, lit≤, List, [], ◌∷◌, length, map, replicate, Option, Some, None, Result, Ok, Err, IsTrue, codes, refl, ap, inl, inr, arith, rules}
-use Rattle.std.proofs.lemmas.Bool.{and_parts, leb-true, lt-ltb, cases_lt, le-ltb}
+use Rattle.std.proofs.Common.{◌≡◌, ◌≢◌, ◌∙◌, ℕ, zero, suc, ◌*◌, ◌/◌, ◌^◌, ◌<◌, ◌≤◌, Bool, true, false, cond, eqb, ltb, leb, nat_lt, min, lit<, lit≤, List, [], ◌∷◌, length, map, replicate, Option, Some, None, Result, Ok, Err, IsTrue, codes, refl, sym, ap, inl, inr, arith, rules}
+use Rattle.std.proofs.lemmas.Bool.{and_parts, false≢true, leb-true, lt-ltb, cases_lt, le-ltb}
 use Rattle.std.proofs.lemmas.Bool.Decides.{nat_tests}
 use Rattle.std.proofs.lemmas.Str.{IsUtf8-from_ascii}
 use Rattle.std.proofs.lemmas.Str.Parse.{IsNumeralModel, not_in_digits, numerals_by_value, parse_plain}
@@ -18,7 +18,7 @@ use Rattle.std.specs.Cmp.Lexicographic.{bytes_decides}
 use Rattle.xet_cut.specs.Limits.{bad_field, is_between, shown_settings}
 use Rattle.xet_cut.specs.Generator.{gear_table}
 use Rattle.xet_cut.specs.theorems.Ranges.{none_bad}
-use Rattle.xet_arguments.specs.Arguments.{is_option, some_of, three_of, two_of, two_or_three_of}
+use Rattle.xet_arguments.specs.Arguments.{is_option, three_of, two_of, two_or_three_of}
 use Rattle.xet_program.specs.Words.{Command}
 use Rattle.xet_program.specs.Words.Command.{Clean, ListFiles, Make, Group}
 use Rattle.xet_program.specs.declared.words.Command.{Command as Parsed}
@@ -129,13 +129,13 @@ read_some hash from to words e = ap read_found e ∙ read_three words
 pub read_none : (words : List (List ℕ)) → None ≡ three_of words → None ≡ read_of words
 read_none words e = ap read_found e ∙ read_three words
 
-pub clean_some : {X : Type 0} (f : X → List ℕ) (names : List X) (found : List (List ℕ)) → Some found ≡ some_of (map f names) → 1 ≤ length names
-clean_some f [] found e = cc
-clean_some f (name ∷ names) found e = omega arith
+pub clean_some : {X : Type 0} (names : List X) → nat_lt 0 (length names) ≡ true → 1 ≤ length names
+clean_some [] e = absurd (false≢true e)
+clean_some (name ∷ names) e = omega arith
 
-pub clean_none : (names : List (List ℕ)) → None ≡ some_of names → None ≡ clean_of names
-clean_none [] e = refl
-clean_none (name ∷ names) e = cc
+pub clean_none : {X : Type 0} (f : X → List ℕ) (names : List X) → nat_lt 0 (length names) ≡ false → None ≡ clean_of (map f names)
+clean_none f [] e = refl
+clean_none f (name ∷ names) e = absurd (false≢true (sym e ∙ lt-ltb 0 (length (name ∷ names)) (omega arith)))
 
 -- a text that is not another
 other_bytes : (xs ys : List ℕ) → xs ≢ ys → bytes_eq xs ys ≡ false

@@ -1,35 +1,26 @@
 -- A run without a cause for another status ends with status 0, unless it is stopped.
-use Rattle.std.proofs.Common.{◌≡◌, ◌⊎◌, ◌∙◌, ℕ, zero, suc, ◌<◌, inl, inr, Bool, true, false, List, [], ◌∷◌, length, map, get_or, subst, Option, Some, None, refl, sym, ap, arith}
+use Rattle.std.proofs.Common.{◌≡◌, ◌⊎◌, ◌∙◌, ℕ, inl, inr, Bool, true, false, List, [], ◌∷◌, length, map, subst, Option, Some, None, refl, sym, ap, arith}
 use Rattle.std.proofs.lemmas.Bool.{false≢true}
-use Rattle.std.specs.FinMap.{get}
+use Rattle.std.proofs.lemmas.List.{length-map}
 use Rattle.xet_io.specs.Disk.{Files}
 use Rattle.xet_io.specs.Named.{Named}
-use Rattle.xet_folder.specs.Contents.{HasContents}
+use Rattle.xet_folder.specs.Contents.{HasTooMany}
+use Rattle.xet_shard_file.specs.Shards.{ShardFile}
 use Rattle.xet_folder.specs.Xorbs.{FileRecords}
 use Rattle.xet_folder.specs.declared.contents.Contents.{Contents}
 use Rattle.xet_folder.specs.theorems.Agreeing.{not_both}
 use Rattle.xet_program.specs.Allowed.{are_short}
 use Rattle.xet_program.specs.Answers.{Answers, AreNamed, CleanAnswer, IsNoRange, ReadAnswer}
 use Rattle.xet_program.specs.Early.{Outcome, group_outcome}
-use Rattle.xet_program.specs.Ending.{IsAnswer, IsCutShort, IsFaultless, IsRejected, IsStopped, IsStoppedSilent, MayEnd, Prints}
-use Rattle.xet_program.specs.Ending.MayEnd.{answered, early, full, malformed, refused, stopped}
+use Rattle.xet_program.specs.Ending.{CanOpen, IsAnswer, IsCutShort, IsFaultless, IsRejected, IsStopped, IsStoppedSilent, MayEnd, Prints}
+use Rattle.xet_program.specs.Ending.MayEnd.{answered, early, full, malformed, refused, stopped, too_many}
 use Rattle.xet_program.specs.Start.{Observes, Start}
 use Rattle.xet_program.specs.Tasks.{default_limits, store_folder}
 use Rattle.xet_program.specs.Words.{Command}
 use Rattle.xet_program.specs.Words.Command.{Pack, Clean, Make, Read, ListFiles, Group}
-use Rattle.xet_program.proofs.Contents.{records_once}
+use Rattle.xet_program.proofs.Absent.{none_absent}
+use Rattle.xet_program.proofs.Contents.{records_once, shards_once}
 use Rattle.xet_program.proofs.Endings.{group_short}
-
--- a name that has a file is not absent
-pub none_absent : (inputs : Named (List ℕ)) (names files : List (List ℕ)) (k : ℕ) (name : List ℕ) → AreNamed inputs names files → k < length names → get_or names k name ≡ name → get inputs name ≡ None → ⊥
-none_absent inputs [] files k name named below is none = omega arith
-none_absent inputs (n ∷ ns) [] k name named below is none = cc named
-none_absent inputs (n ∷ ns) (f ∷ fs) zero name named below is none =
-    let here : get inputs n ≡ Some f = cc named in
-    cc (sym here ∙ ap (get inputs) is ∙ none)
-none_absent inputs (n ∷ ns) (f ∷ fs) (suc k) name named below is none =
-    let rest : map (get inputs) ns ≡ map Some fs = cc named in
-    none_absent inputs ns fs k name rest (omega arith) is none
 
 some_once : (xs ys : List (List ℕ)) → map {B = Option (List ℕ)} Some xs ≡ map Some ys → xs ≡ ys
 some_once [] [] e = refl
@@ -59,9 +50,16 @@ module _ (start : Start) (new : Files) (o : Outcome) where
   abbrev Ends : Type 0
   Ends = (o.status ≡ 0) ⊎ IsStopped o.status
 
-  not_rejected : (X : Type 0) (contents : Contents) → start.tells ≡ true → HasContents start.files store_folder start.now contents → IsRejected start o → X
-  not_rejected X contents told has rejected =
-      let refuses = rejected.fails told in absurd (not_both start.files store_folder start.now has.shards refuses.0 rejected.name has.admits refuses.1)
+  not_rejected : (X : Type 0) (contents : Contents) → start.tells ≡ true → CanOpen start.files start.now contents → IsRejected start o → X
+  not_rejected X contents told can rejected =
+      let refuses = rejected.fails told in absurd (not_both start.files store_folder start.now can.valid.shards refuses.0 rejected.name can.valid.admits refuses.1)
+
+  -- a folder that can be opened has not too many shards
+  not_too_many : (X : Type 0) (contents : Contents) → start.tells ≡ true → CanOpen start.files start.now contents → (start.tells ≡ true → HasTooMany start.files store_folder start.now) → X
+  not_too_many X contents told can many =
+      let past = many told in
+      let same = shards_once start.files store_folder start.now contents past.shards can.valid past.admits.registers in
+      absurd (omega (arith, past.many, can.few, ap (λ (ss : List ShardFile). length ss) same, ap (λ (hs : List (List ℕ)). length hs) can.valid.contents.registered, length-map can.valid.shards (λ (f : ShardFile). f.hash)))
 
   not_malformed : (X : Type 0) → start.tells ≡ true → start.tells ≡ false → X
   not_malformed X told never = absurd (false≢true (sym never ∙ told))
@@ -76,27 +74,33 @@ module _ (start : Start) (new : Files) (o : Outcome) where
   of_clean names contents files told named short (CleanAnswer.reported report) = inl report.status
 
   of_read : (h : List ℕ) (from to : ℕ) (contents : Contents) → start.tells ≡ true → IsFaultless (Some (Read h from to)) start new
-      → (start.tells ≡ true → HasContents start.files store_folder start.now contents) → ReadAnswer h from to start contents o → Ends
+      → (start.tells ≡ true → CanOpen start.files start.now contents) → ReadAnswer h from to start contents o → Ends
   of_read h from to contents told fine valid (ReadAnswer.none absent is) =
-      let one = records_once start.files store_folder start.now contents fine.0.0 (valid told) fine.0.1 in
-      absurd (fine.0.2 (subst (λ (r : FileRecords). IsNoRange r h from to) one (absent told)))
+      let one = records_once start.files store_folder start.now contents fine.0 (valid told).valid fine.1.valid in
+      absurd (fine.2 (subst (λ (r : FileRecords). IsNoRange r h from to) one (absent told)))
   of_read h from to contents told fine valid (ReadAnswer.read nought ordered len is) = inl nought
 
   end_of : (command : Option Command) → Observes start command → start.tells ≡ true → IsFaultless command start new → MayEnd command start new o → Ends
   end_of None observes told fine may = absurd fine
   end_of (Some c) observes told fine (stopped stop silent) = inr (stopped_silent (Some c) start o.status stop)
-  end_of (Some (Pack s workers)) observes told fine (full opens none many is) = absurd (fine.3 (many told))
-  end_of (Some (Clean names)) observes told fine (full opens none many is) = absurd (fine.5 (many told))
-  end_of (Some (Make seed bytes)) observes told fine (full opens none many is) = absurd (fine.2 (many told))
-  end_of (Some (Read h from to)) observes told fine (full opens none many is) = absurd (fine.1 (many told))
-  end_of (Some ListFiles) observes told fine (full opens none many is) = absurd (fine.1 (many told))
-  end_of (Some Group) observes told fine (full opens none many is) = absurd opens
-  end_of (Some (Pack s workers)) observes told fine (malformed opens none never is) = absurd (never observes told fine.2)
-  end_of (Some (Clean names)) observes told fine (malformed opens none never is) = absurd (never observes told fine.4)
-  end_of (Some (Make seed bytes)) observes told fine (malformed opens none never is) = absurd (never told fine.1)
-  end_of (Some (Read h from to)) observes told fine (malformed opens none never is) = not_malformed Ends told never
-  end_of (Some ListFiles) observes told fine (malformed opens none never is) = not_malformed Ends told never
-  end_of (Some Group) observes told fine (malformed opens none never is) = absurd opens
+  end_of (Some (Pack s workers)) observes told fine (full stores found many is) = absurd (fine.3 (many told))
+  end_of (Some (Clean names)) observes told fine (full stores found many is) = absurd (fine.5 (many told))
+  end_of (Some (Make seed bytes)) observes told fine (full stores found many is) = absurd (fine.2 (many told))
+  end_of (Some (Read h from to)) observes told fine (full stores found many is) = absurd stores
+  end_of (Some ListFiles) observes told fine (full stores found many is) = absurd stores
+  end_of (Some Group) observes told fine (full stores found many is) = absurd stores
+  end_of (Some (Pack s workers)) observes told fine (malformed found never is) = absurd (never observes told fine.2)
+  end_of (Some (Clean names)) observes told fine (malformed found never is) = absurd (never observes told fine.4)
+  end_of (Some (Make seed bytes)) observes told fine (malformed found never is) = absurd (never told fine.1)
+  end_of (Some (Read h from to)) observes told fine (malformed found never is) = not_malformed Ends told never
+  end_of (Some ListFiles) observes told fine (malformed found never is) = absurd never
+  end_of (Some Group) observes told fine (malformed found never is) = absurd never
+  end_of (Some (Pack s workers)) observes told fine (too_many opens none many is) = not_too_many Ends fine.1.0 told fine.1.1 many
+  end_of (Some (Clean names)) observes told fine (too_many opens none many is) = not_too_many Ends fine.3.0 told fine.3.1 many
+  end_of (Some (Make seed bytes)) observes told fine (too_many opens none many is) = not_too_many Ends fine.0.0 told fine.0.1 many
+  end_of (Some (Read h from to)) observes told fine (too_many opens none many is) = not_too_many Ends fine.0 told fine.1 many
+  end_of (Some ListFiles) observes told fine (too_many opens none many is) = not_too_many Ends fine.0 told fine.1 many
+  end_of (Some Group) observes told fine (too_many opens none many is) = absurd opens
   end_of (Some (Pack s workers)) observes told fine (early e of) = absurd (cc (sym fine.0 ∙ e observes))
   end_of (Some (Pack s workers)) observes told fine (refused opens none rejected) = not_rejected Ends fine.1.0 told fine.1.1 rejected
   end_of (Some (Pack s workers)) observes told fine (answered none answer) = inl (answer_of (Pack s workers) start new o answer).status
@@ -108,10 +112,10 @@ module _ (start : Start) (new : Files) (o : Outcome) where
   end_of (Some (Make seed bytes)) observes told fine (refused opens none rejected) = not_rejected Ends fine.0.0 told fine.0.1 rejected
   end_of (Some (Make seed bytes)) observes told fine (answered none answer) = inl (answer_of (Make seed bytes) start new o answer).status
   end_of (Some (Read h from to)) observes told fine (early e of) = absurd of
-  end_of (Some (Read h from to)) observes told fine (refused opens none rejected) = not_rejected Ends fine.0.0 told fine.0.1 rejected
+  end_of (Some (Read h from to)) observes told fine (refused opens none rejected) = not_rejected Ends fine.0 told fine.1 rejected
   end_of (Some (Read h from to)) observes told fine (answered none answer) = of_read h from to answer.contents told fine answer.valid (answer_of (Read h from to) start new o answer)
   end_of (Some ListFiles) observes told fine (early e of) = absurd of
-  end_of (Some ListFiles) observes told fine (refused opens none rejected) = not_rejected Ends fine.0.0 told fine.0.1 rejected
+  end_of (Some ListFiles) observes told fine (refused opens none rejected) = not_rejected Ends fine.0 told fine.1 rejected
   end_of (Some ListFiles) observes told fine (answered none answer) = inl (ap (λ (x : Outcome). x.status) (answer_of ListFiles start new o answer).is)
   end_of (Some Group) observes told fine (early e of) =
       let is : group_outcome start.input ≡ o = cc (e observes) in

@@ -72,6 +72,12 @@ registers_among : (files : Files) (folder : List ℕ) (now : ℕ) (xs ys : List 
 registers_among files folder now xs ys a b s (i, (below, is)) =
     b.all s (subst (IsThere files folder) (sym is) (a.there i s below)) (subst (λ (t : ShardFile). is_expired now t.file.bytes ≡ false) (sym is) (a.valid i s below))
 
+-- what is registered of a folder is what its contents are of
+pub shards_once : (files : Files) (folder : List ℕ) (now : ℕ) (c : Contents) (xs : List ShardFile) → (has : HasContents files folder now c) → Registers files folder now xs → has.shards ≡ xs
+shards_once files folder now c xs has r =
+    let s = has.admits.registers in
+    same_shards has.shards xs s.order r.order (registers_among files folder now has.shards xs s r) (registers_among files folder now xs has.shards r s)
+
 pub records_once : (files : Files) (folder : List ℕ) (now : ℕ) (c d : Contents) → HasContents files folder now c → HasContents files folder now d → c.records ≡ d.records
 records_once files folder now c d a b =
     let r = a.admits.registers in

@@ -14,7 +14,7 @@ use Rattle.xet_program.specs.Early.{IsEarly, Outcome, bad_line_text, group_outco
 use Rattle.xet_program.specs.Tasks.{store_folder}
 use Rattle.xet_program.specs.Answers.{Answers, CleanAnswer, ReadAnswer}
 use Rattle.xet_program.specs.Ending.{IsRejected, IsShardName, IsSilent, MayEnd, Prints, bad_shard_text}
-use Rattle.xet_program.specs.Ending.MayEnd.{answered, early, full, malformed, refused, stopped}
+use Rattle.xet_program.specs.Ending.MayEnd.{answered, early, full, malformed, refused, stopped, too_many}
 use Rattle.xet_program.proofs.Answered.{none_of_six}
 
 -- ---- the statuses at which something is printed
@@ -89,8 +89,9 @@ module _ (start : Start) (o : Outcome) where
   kind_of command new (stopped (inr (inl (four, reads))) silent) = Kind.quiet 4 four (omega arith) (λ e. omega arith) (λ e. omega arith) silent
   kind_of command new (stopped (inr (inr (inl (four, opens, valid)))) silent) = Kind.quiet 4 four (omega arith) (λ e. omega arith) (λ e. omega arith) silent
   kind_of command new (stopped (inr (inr (inr (six, opens, none)))) silent) = Kind.quiet 6 six (omega arith) (λ e. omega arith) (λ e. omega arith) silent
-  kind_of command new (full opens none many is) = quiet_of start o 9 is (omega arith) (λ e. omega arith) (λ e. omega arith)
-  kind_of command new (malformed opens none never is) = quiet_of start o 10 is (omega arith) (λ e. omega arith) (λ e. omega arith)
+  kind_of command new (too_many opens none many is) = quiet_of start o 9 is (omega arith) (λ e. omega arith) (λ e. omega arith)
+  kind_of command new (full stores found many is) = quiet_of start o 9 is (omega arith) (λ e. omega arith) (λ e. omega arith)
+  kind_of command new (malformed found never is) = quiet_of start o 10 is (omega arith) (λ e. omega arith) (λ e. omega arith)
 
   -- ---- its status and text
 

@@ -1,11 +1,13 @@
 -- What a session shows of its folder: whether it is full, and whether its chunks are apart.
-use Rattle.std.proofs.Common.{◌≡◌, ◌≢◌, ◌∙◌, inl, inr, ℕ, suc, ◌≤◌, Bool, true, false, List, [], ◌∷◌, length, map, Option, Some, None, Result, Ok, Err, IfErr, Vec, Global, refl, sym, ap, subst, arith}
+use Rattle.std.proofs.Common.{◌≡◌, ◌≢◌, ◌∙◌, inl, inr, ℕ, suc, ◌≤◌, Bool, true, false, List, [], ◌∷◌, length, map, Option, Some, None, Result, Ok, Err, IfErr, IfOk, OnOk, Vec, Global, refl, sym, ap, subst, arith}
 use Rattle.std.proofs.lemmas.List.{length-map}
 use Rattle.std.specs.Prelude.{Any, AllPairs}
+use Rattle.std.specs.List.{flat_map}
 use Rattle.std.specs.Result.{IsErrOf}
 use Rattle.xet_cut.specs.Chunking.{chunking}
 use Rattle.xet_cut.specs.declared.limits.LimitSettings.{LimitSettings}
-use Rattle.xet_folder.specs.Contents.{IsFolderError, HasContents, max_shards}
+use Rattle.xet_folder.specs.Contents.{IsFolderError, max_shards}
+use Rattle.xet_folder.specs.Plan.{Resolves}
 use Rattle.xet_folder.specs.Stored.{IsStored}
 use Rattle.xet_hash.specs.declared.error.Place.TheVariants as place
 use Rattle.xet_hash.specs.declared.error.StoreError.{StoreError}
@@ -18,8 +20,9 @@ use Rattle.xet_io.specs.Named.{Named}
 use Rattle.xet_shard_file.specs.Shards.{IsThere, Registers, ShardFile}
 use Rattle.xet_store.specs.Cleaning.{Keeps}
 use Rattle.xet_store.specs.Opening.{IsOpened, contents_of}
+use Rattle.xet_store.specs.Ranges.{IsRange}
 use Rattle.xet_store.specs.Separate.{Among, MetChunk}
-use Rattle.xet_store.specs.Store.{Sound}
+use Rattle.xet_store.specs.Store.{Differ, Sound, State, recorded_files}
 use Rattle.xet_store.specs.theorems.Admitting.{of_any, one_of}
 use Rattle.xet_store.specs.theorems.Rows.{from_among}
 use Rattle.xet_steps.specs.Recorded.{IsRecorded, RecordedState, core_of}
@@ -27,12 +30,14 @@ use Rattle.xet_steps.specs.theorems.Lasting.{shard_readable}
 use Rattle.xet_steps.specs.theorems.Sound.{among_map}
 use Rattle.xet_program.specs.declared.ending.Stop.{Stop}
 use Rattle.xet_program.specs.declared.ending.Stop.TheVariants as stop
+use Rattle.xet_program.specs.Answers.{IsRangeOf, listed_line}
+use Rattle.xet_program.specs.Ending.{CanOpen}
 use Rattle.xet_program.specs.Making.{both_files}
 use Rattle.xet_program.specs.Reasons.{AreApart, IsFull, IsKeyHere, MetHere}
 use Rattle.xet_program.specs.Tasks.{default_limits, store_folder}
 use Rattle.xet_program.specs.Allowed.{are_short}
 use Rattle.xet_program.specs.internal.Parsing.{Said}
-use Rattle.xet_program.specs.internal.Stops.{Causes, IsApartFor, IsStop, answer_outcome, cleaning_store_causes, filing_causes, folder_causes, making_causes, naming_causes, reading_range_causes, session_causes, stop_of_refusal, storing_causes}
+use Rattle.xet_program.specs.internal.Stops.{Causes, ForValid, IsApartFor, IsStop, answer_outcome, cleaning_store_causes, filing_causes, finding_causes, folder_causes, making_causes, naming_causes, reading_range_causes, session_causes, stop_of_refusal, storing_causes}
 
 -- ---- a list whose elements differ is no longer than one that has them all
 
@@ -113,8 +118,7 @@ stop_folder tells files now before after (error.Io place.Input) None h = absurd 
 stop_folder tells files now before after (error.Io place.Output) None h = absurd h
 stop_folder tells files now before after (error.Io (place.Source i)) None h = absurd h
 stop_folder tells files now before after error.OutOfMemory None h = tt
-stop_folder tells files now before after (error.TooLarge what.Shards) None h = λ told.
-    let many = h told in record { shards = many.shards; registers = many.admits.registers; many = omega (arith, many.many) }
+stop_folder tells files now before after (error.TooLarge what.Shards) None h = h
 stop_folder tells files now before after (error.TooLarge what.Input) None h = absurd h
 stop_folder tells files now before after (error.TooLarge (what.Source i)) None h = absurd h
 stop_folder tells files now before after _ None h = absurd h
@@ -130,26 +134,26 @@ stop_refused causes (Err f) tells old files now before after e name same refused
     let here : f ≡ stop_of_refusal e name = cc is in
     subst (IsStop causes) (sym here) (more (stop_of_refusal e name) (subst (λ (x : Files). IsStop (folder_causes tells now x) (stop_of_refusal e name)) same (stop_folder tells files now before after e name refused)))
 
-pub folder_storing : (tells : Bool) (s : LimitSettings) (said : Said) (now : ℕ) (old new : Files) → new ≡ old → (reason : Stop) → IsStop (folder_causes tells now old) reason → IsStop (storing_causes tells s said now old new) reason
-folder_storing tells s said now old new same stop.OutOfMemory h = tt
-folder_storing tells s said now old new same stop.Disk h = tt
-folder_storing tells s said now old new same stop.TooLarge h = inr (λ told. subst (λ (x : Files). IsFull x now) (sym same) (h told))
-folder_storing tells s said now old new same (stop.BadShard name) h = h
-folder_storing tells s said now old new same stop.Input h = absurd h
-folder_storing tells s said now old new same stop.NotFound h = absurd h
-folder_storing tells s said now old new same stop.Malformed h = absurd h
-folder_storing tells s said now old new same (stop.BadLine n) h = absurd h
+pub folder_storing : (tells : Bool) (s : LimitSettings) (said : Said) (now : ℕ) (old new : Files) → (reason : Stop) → IsStop (folder_causes tells now old) reason → IsStop (storing_causes tells s said now old new) reason
+folder_storing tells s said now old new stop.OutOfMemory h = tt
+folder_storing tells s said now old new stop.Disk h = tt
+folder_storing tells s said now old new stop.TooLarge h = inr (inl h)
+folder_storing tells s said now old new (stop.BadShard name) h = h
+folder_storing tells s said now old new stop.Input h = absurd h
+folder_storing tells s said now old new stop.NotFound h = absurd h
+folder_storing tells s said now old new stop.Malformed h = absurd h
+folder_storing tells s said now old new (stop.BadLine n) h = absurd h
 
-pub folder_cleaning : (inputs_tell : Bool) (inputs : Named (List ℕ)) (names : List (List ℕ)) (tells : Bool) (now : ℕ) (old new : Files) → new ≡ old → (reason : Stop) → IsStop (folder_causes tells now old) reason
+pub folder_cleaning : (inputs_tell : Bool) (inputs : Named (List ℕ)) (names : List (List ℕ)) (tells : Bool) (now : ℕ) (old new : Files) → (reason : Stop) → IsStop (folder_causes tells now old) reason
     → IsStop (cleaning_store_causes inputs_tell inputs names tells now old new) reason
-folder_cleaning it is ns tells now old new same stop.OutOfMemory h = tt
-folder_cleaning it is ns tells now old new same stop.Disk h = tt
-folder_cleaning it is ns tells now old new same stop.TooLarge h = inr (λ told. subst (λ (x : Files). IsFull x now) (sym same) (h told))
-folder_cleaning it is ns tells now old new same (stop.BadShard name) h = h
-folder_cleaning it is ns tells now old new same stop.Input h = absurd h
-folder_cleaning it is ns tells now old new same stop.NotFound h = absurd h
-folder_cleaning it is ns tells now old new same stop.Malformed h = absurd h
-folder_cleaning it is ns tells now old new same (stop.BadLine n) h = absurd h
+folder_cleaning it is ns tells now old new stop.OutOfMemory h = tt
+folder_cleaning it is ns tells now old new stop.Disk h = tt
+folder_cleaning it is ns tells now old new stop.TooLarge h = inr (inl h)
+folder_cleaning it is ns tells now old new (stop.BadShard name) h = h
+folder_cleaning it is ns tells now old new stop.Input h = absurd h
+folder_cleaning it is ns tells now old new stop.NotFound h = absurd h
+folder_cleaning it is ns tells now old new stop.Malformed h = absurd h
+folder_cleaning it is ns tells now old new (stop.BadLine n) h = absurd h
 
 pub folder_reading : (tells : Bool) (now : ℕ) (files : Files) (h : List ℕ) (from to : ℕ) (reason : Stop) → IsStop (folder_causes tells now files) reason → IsStop (reading_range_causes tells now files h from to) reason
 folder_reading tells now files h from to stop.OutOfMemory is = tt
@@ -161,15 +165,50 @@ folder_reading tells now files h from to stop.NotFound is = absurd is
 folder_reading tells now files h from to stop.Malformed is = absurd is
 folder_reading tells now files h from to (stop.BadLine n) is = absurd is
 
-pub folder_making : (tells : Bool) (now : ℕ) (old new : Files) (bytes : List ℕ) → new ≡ old → (reason : Stop) → IsStop (folder_causes tells now old) reason → IsStop (making_causes tells now old new bytes) reason
-folder_making tells now old new bytes same stop.OutOfMemory h = tt
-folder_making tells now old new bytes same stop.Disk h = tt
-folder_making tells now old new bytes same stop.TooLarge h = λ told. subst (λ (x : Files). IsFull x now) (sym same) (h told)
-folder_making tells now old new bytes same (stop.BadShard name) h = h
-folder_making tells now old new bytes same stop.Input h = absurd h
-folder_making tells now old new bytes same stop.NotFound h = absurd h
-folder_making tells now old new bytes same stop.Malformed h = absurd h
-folder_making tells now old new bytes same (stop.BadLine n) h = absurd h
+pub folder_making : (tells : Bool) (now : ℕ) (old new : Files) (bytes : List ℕ) → (reason : Stop) → IsStop (folder_causes tells now old) reason → IsStop (making_causes tells now old new bytes) reason
+folder_making tells now old new bytes stop.OutOfMemory h = tt
+folder_making tells now old new bytes stop.Disk h = tt
+folder_making tells now old new bytes stop.TooLarge h = inl h
+folder_making tells now old new bytes (stop.BadShard name) h = h
+folder_making tells now old new bytes stop.Input h = absurd h
+folder_making tells now old new bytes stop.NotFound h = absurd h
+folder_making tells now old new bytes stop.Malformed h = absurd h
+folder_making tells now old new bytes (stop.BadLine n) h = absurd h
+
+-- ---- a folder that is only read
+
+module _ (tells : Bool) (disk : Files) (limits : LimitSettings) (now : ℕ) (s : State) (opened : IsOpened tells false disk store_folder limits now s) (valid : tells ≡ true → CanOpen disk now (contents_of s)) where
+  -- the lines of its files
+  pub lists_opened : (r : Answer) → IfOk r (λ text. text.items ≡ flat_map listed_line (recorded_files s.records)) → OnOk r (Differ (recorded_files s.records))
+      → IfOk r (λ text. ForValid tells disk now (λ contents. Differ (recorded_files contents.records) × (text.items ≡ flat_map listed_line (recorded_files contents.records))))
+  lists_opened (Ok t) text differ = (contents_of s, valid, (differ, text))
+  lists_opened (Err e) text differ = tt
+
+  module _ (h : List ℕ) (from to : ℕ) where
+    range_opened : (bytes : List ℕ) → IsRange s h from to bytes → IsRangeOf disk s.records h from to bytes
+    range_opened bytes r =
+        let on_disk : Resolves (IsStored disk s.folder) length r.plan r.chunks = subst (λ (x : Files). Resolves (IsStored x s.folder) length r.plan r.chunks) (opened.same_files refl) r.resolves in
+        record { plan = r.plan; planned = r.planned; chunks = r.chunks; resolves = subst (λ (f : List ℕ). Resolves (IsStored disk f) length r.plan r.chunks) opened.same_folder on_disk; is = r.is }
+
+    -- a range of a file
+    pub reads_opened : (r : Answer) → (s.tells ≡ true → IfOk r (λ bytes. IsRange s h from to bytes.items))
+        → IfOk r (λ bytes. ForValid tells disk now (λ contents. tells ≡ true → IsRangeOf disk contents.records h from to bytes.items))
+    reads_opened (Ok t) read = (contents_of s, valid, λ told. range_opened t.items (read (opened.same_tells ∙ told)))
+    reads_opened (Err e) read = tt
+
+    stop_reading : (reason : Stop) → IsStop (finding_causes s h from to) reason → IsStop (reading_range_causes tells now disk h from to) reason
+    stop_reading stop.OutOfMemory is = tt
+    stop_reading stop.Disk is = tt
+    stop_reading stop.NotFound is = (contents_of s, valid, is)
+    stop_reading stop.Malformed is = sym opened.same_tells ∙ is
+    stop_reading stop.TooLarge is = absurd is
+    stop_reading stop.Input is = absurd is
+    stop_reading (stop.BadLine n) is = absurd is
+    stop_reading (stop.BadShard name) is = absurd is
+
+    pub stops_reading : (r : Answer) → IfErr r (IsStop (finding_causes s h from to)) → IfErr r (IsStop (reading_range_causes tells now disk h from to))
+    stops_reading (Ok t) is = tt
+    stops_reading (Err e) is = stop_reading e is
 
 -- ---- a session over the disk that it hands back
 
@@ -185,32 +224,36 @@ module _ (tells : Bool) (disk files : Files) (limits : LimitSettings) (now : ℕ
   apart_then stored told apart = subst (λ (l : LimitSettings). IsApartFor l t stored) (sym opened.same_limits)
       (apart_folder t sound recorded (told_then told) (keeps.folder ∙ opened.same_folder) files is now (keeps.opened ∙ opened.time) limits stored apart)
 
-  stop_storing : (said : Said) (reason : Stop) → IsStop (session_causes s t said) reason → IsStop (storing_causes tells limits said now disk files) reason
-  stop_storing said stop.OutOfMemory h = tt
-  stop_storing said stop.Disk h = tt
-  stop_storing said stop.TooLarge (inl long) = inl (subst (λ (l : LimitSettings). are_short l said.files ≡ false) opened.same_limits long)
-  stop_storing said stop.TooLarge (inr full) = inr (full_then full)
-  stop_storing said stop.Malformed h = λ told apart. h (opened.same_tells ∙ told) (apart_then said.files told apart)
-  stop_storing said stop.Input h = absurd h
-  stop_storing said stop.NotFound h = absurd h
-  stop_storing said (stop.BadLine n) h = absurd h
-  stop_storing said (stop.BadShard name) h = absurd h
+  stop_storing : (said : Said) (reason : Stop) → (tells ≡ true → CanOpen disk now (contents_of s.store)) → IsStop (session_causes s t said) reason → IsStop (storing_causes tells limits said now disk files) reason
+  stop_storing said stop.OutOfMemory valid h = tt
+  stop_storing said stop.Disk valid h = tt
+  stop_storing said stop.TooLarge valid (inl long) = inl (subst (λ (l : LimitSettings). are_short l said.files ≡ false) opened.same_limits long)
+  stop_storing said stop.TooLarge valid (inr full) = inr (inr (contents_of s.store, valid, full_then full))
+  stop_storing said stop.Malformed valid h = (contents_of s.store, valid, λ told apart. h (opened.same_tells ∙ told) (apart_then said.files told apart))
+  stop_storing said stop.Input valid h = absurd h
+  stop_storing said stop.NotFound valid h = absurd h
+  stop_storing said (stop.BadLine n) valid h = absurd h
+  stop_storing said (stop.BadShard name) valid h = absurd h
 
-  pub stops_storing : (said : Said) (r : Answer) → IfErr r (IsStop (session_causes s t said)) → IfErr r (IsStop (storing_causes tells limits said now disk files))
-  stops_storing said (Ok x) h = tt
-  stops_storing said (Err e) h = stop_storing said e h
+  pub stops_storing : (said : Said) (r : Answer) → (tells ≡ true → CanOpen disk now (contents_of s.store)) → IfErr r (IsStop (session_causes s t said)) → IfErr r (IsStop (storing_causes tells limits said now disk files))
+  stops_storing said (Ok x) valid h = tt
+  stops_storing said (Err e) valid h = stop_storing said e valid h
 
 module _ (inputs_tell : Bool) (inputs : Named (List ℕ)) (names : List (List ℕ)) (tells : Bool) (disk files : Files) (now : ℕ) (s t : RecordedState) (opened : IsOpened tells false disk store_folder default_limits now s.store)
-    (keeps : Keeps s.store t.store) (sound : Sound t.store) (recorded : IsRecorded t) (is : files ≡ t.store.files) (valid : tells ≡ true → HasContents disk store_folder now (contents_of s.store)) where
+    (keeps : Keeps s.store t.store) (sound : Sound t.store) (recorded : IsRecorded t) (is : files ≡ t.store.files) (valid : tells ≡ true → CanOpen disk now (contents_of s.store)) where
   stop_cleaning : (reason : Stop) → IsStop (naming_causes inputs_tell inputs names s t) reason → IsStop (cleaning_store_causes inputs_tell inputs names tells now disk files) reason
   stop_cleaning stop.OutOfMemory h = tt
   stop_cleaning stop.Disk h = tt
   stop_cleaning stop.Input h = (contents_of s.store, valid, tt)
   stop_cleaning stop.NotFound h = (contents_of s.store, valid, h)
   stop_cleaning stop.TooLarge (inl long) = inl (contents_of s.store, valid, λ told. let l = long told in (l.0, l.1, subst (λ (x : LimitSettings). are_short x l.0 ≡ false) opened.same_limits l.2))
-  stop_cleaning stop.TooLarge (inr full) = inr (full_then tells disk files default_limits now s t opened keeps sound recorded is full)
-  stop_cleaning stop.Malformed h = λ inputs_told told.
-      let m = h inputs_told (opened.same_tells ∙ told) in (m.0, m.1, λ apart. m.2 (apart_then tells disk files default_limits now s t opened keeps sound recorded is m.0 told apart))
+  stop_cleaning stop.TooLarge (inr (named, full)) = inr (inr (contents_of s.store, valid, (named, full_then tells disk files default_limits now s t opened keeps sound recorded is full)))
+  stop_cleaning stop.Malformed h = (
+    contents_of s.store,
+    valid,
+    λ inputs_told.
+        let m = h inputs_told in (m.0, m.1, λ told apart. m.2 (opened.same_tells ∙ told) (apart_then tells disk files default_limits now s t opened keeps sound recorded is m.0 told apart)),
+  )
   stop_cleaning (stop.BadLine n) h = absurd h
   stop_cleaning (stop.BadShard name) h = absurd h
 
@@ -219,12 +262,13 @@ module _ (inputs_tell : Bool) (inputs : Named (List ℕ)) (names : List (List �
   stops_cleaning (Err e) h = stop_cleaning e h
 
 module _ (tells : Bool) (disk files : Files) (now : ℕ) (s t : RecordedState) (opened : IsOpened tells false disk store_folder default_limits now s.store) (keeps : Keeps s.store t.store) (sound : Sound t.store) (recorded : IsRecorded t)
-    (is : files ≡ t.store.files) (bytes : List ℕ) where
+    (is : files ≡ t.store.files) (valid : tells ≡ true → CanOpen disk now (contents_of s.store)) (bytes : List ℕ) where
   stop_making : (reason : Stop) → IsStop (filing_causes s t (both_files bytes)) reason → IsStop (making_causes tells now disk files bytes) reason
   stop_making stop.OutOfMemory h = tt
   stop_making stop.Disk h = tt
-  stop_making stop.TooLarge h = full_then tells disk files default_limits now s t opened keeps sound recorded is h
-  stop_making stop.Malformed h = λ told apart. h (opened.same_tells ∙ told) (apart_then tells disk files default_limits now s t opened keeps sound recorded is (both_files bytes) told apart)
+  stop_making stop.TooLarge h = inr (contents_of s.store, valid, full_then tells disk files default_limits now s t opened keeps sound recorded is h)
+  stop_making stop.Malformed h =
+      (contents_of s.store, valid, λ told apart. h (opened.same_tells ∙ told) (apart_then tells disk files default_limits now s t opened keeps sound recorded is (both_files bytes) told apart))
   stop_making stop.Input h = absurd h
   stop_making stop.NotFound h = absurd h
   stop_making (stop.BadLine n) h = absurd h

@@ -3,7 +3,7 @@ use Rattle.std.proofs.Common.{◌≡◌, inl, inr, ◌∙◌, ℕ, Bool, true, f
 use Rattle.std.specs.Cmp.Lexicographic.{pointwise}
 use Rattle.std.specs.List.{AllByRecursion}
 use Rattle.xet_cut.specs.declared.limits.LimitSettings.{LimitSettings}
-use Rattle.xet_folder.specs.Contents.{HasContents, IsRecord}
+use Rattle.xet_folder.specs.Contents.{IsRecord}
 use Rattle.xet_folder.specs.Stored.{IsStored}
 use Rattle.xet_folder.specs.Xorbs.{AreBacked, IsListed, found}
 use Rattle.xet_hash.specs.Hash.{zero_hash}
@@ -17,6 +17,7 @@ use Rattle.xet_store.specs.Store.{Sound, State, plan_of}
 use Rattle.xet_store.specs.theorems.Plans.{resolves_among, resolves_map}
 use Rattle.xet_store.specs.theorems.Whole.{found_has, mapped, same_key}
 use Rattle.xet_program.specs.declared.ending.Stop.{Stop}
+use Rattle.xet_program.specs.Ending.{CanOpen}
 use Rattle.xet_program.specs.Making.{HasChunk, HasChunks, IsMadeText, both_files}
 use Rattle.xet_program.specs.Report.{hash_of_file}
 use Rattle.xet_program.specs.Tasks.{default_limits, store_folder}
@@ -104,7 +105,7 @@ module _ (tells : Bool) (disk files : Files) (now : ℕ) (s t : State) (opened :
     stored = all_planned (both_files bytes) m.planned;
   }
 
-  pub texts_of : (bytes : List ℕ) (valid : tells ≡ true → HasContents disk store_folder now (contents_of s)) (r : Result (Vec ℕ Global) Stop) → IfOk r (λ text. IsMade bytes s t text.items)
+  pub texts_of : (bytes : List ℕ) (valid : tells ≡ true → CanOpen disk now (contents_of s)) (r : Result (Vec ℕ Global) Stop) → IfOk r (λ text. IsMade bytes s t text.items)
       → IfOk r (λ text. ForValid tells disk now (λ contents. IsMadeText tells contents files bytes text.items))
   texts_of bytes valid (Ok text) made = (contents_of s, valid, text_of bytes text.items made)
   texts_of bytes valid (Err e) made = tt

@@ -21,5 +21,6 @@ mod Reported
 mod Named
 mod MadeFiles
 mod Held
+mod Absent
 mod Alone
 mod Hashes

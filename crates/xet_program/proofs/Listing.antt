@@ -1,9 +1,10 @@
 -- What was listed when a folder was opened is listed still.
-use Rattle.std.proofs.Common.{◌≡◌, ◌⊎◌, inl, inr, ◌∙◌, ℕ, Bool, true, false, List, refl, subst, sym, ap}
+use Rattle.std.proofs.Common.{◌≡◌, ◌⊎◌, inl, inr, ◌∙◌, ℕ, ◌≤◌, ◌++◌, length, arith, Bool, true, false, List, refl, subst, sym, ap}
+use Rattle.std.proofs.lemmas.List.{length-append}
 use Rattle.xet_io.specs.Disk.{entry_at as get}
 use Rattle.xet_io.specs.Disk.{Files}
 use Rattle.xet_folder.specs.Admission.{Admits}
-use Rattle.xet_folder.specs.Contents.{HasContents}
+use Rattle.xet_folder.specs.Contents.{HasContents, max_shards}
 use Rattle.xet_folder.specs.Listed.{ResolvesTo, Lists}
 use Rattle.xet_shard_file.specs.Names.{shard_path}
 use Rattle.xet_folder.specs.Names.{IsForeign, xorb_path}
@@ -14,6 +15,8 @@ use Rattle.xet_store.specs.Opening.{IsOpened, contents_of}
 use Rattle.xet_store.specs.Separate.{IsNamed}
 use Rattle.xet_store.specs.Store.{Sound, State}
 use Rattle.xet_store.specs.theorems.Sessions.{resolves_stay, listed_stay, named_newly, named_same, valid_stays}
+use Rattle.xet_steps.specs.Recorded.{IsRecorded, RecordedState}
+use Rattle.xet_program.specs.Ending.{CanOpen}
 use Rattle.xet_program.specs.Tasks.{store_folder}
 use Rattle.xet_program.specs.Stored.{KeepsFolder, KeepsListed}
 
@@ -37,6 +40,17 @@ contents_then old now s files folder time contents =
 pub contents_before : (tells : Bool) (old : Files) (limits : LimitSettings) (now : ℕ) (s : State) → IsOpened tells false old store_folder limits now s
     → (tells ≡ true → HasContents s.files store_folder now (contents_of s)) → tells ≡ true → HasContents old store_folder now (contents_of s)
 contents_before tells old limits now s opened contents told = subst (λ (x : Files). HasContents x store_folder now (contents_of s)) (opened.same_files refl) (contents told)
+
+-- and it can be opened, if as few shards are registered at the end
+pub opens_before : (tells : Bool) (old : Files) (limits : LimitSettings) (now : ℕ) (s : State) → IsOpened tells false old store_folder limits now s
+    → (tells ≡ true → HasContents s.files store_folder now (contents_of s)) → length s.shards ≤ max_shards → tells ≡ true → CanOpen old now (contents_of s)
+opens_before tells old limits now s opened contents few told = record { valid = contents_before tells old limits now s opened contents told; few = few }
+
+-- no shard leaves a session, which has no more than can be registered
+pub few_before : (s t : RecordedState) → Keeps s.store t.store → IsRecorded t → length s.store.shards ≤ max_shards
+few_before s t keeps recorded =
+    let same : length t.store.shards ≡ length (s.store.shards ++ keeps.shards.0) = ap length keeps.shards.1 in
+    omega (arith, same, length-append s.store.shards keeps.shards.0, recorded.shards.few)
 
 -- over the disk that it hands back
 pub keeps_listed : (tells : Bool) (old new : Files) (limits : LimitSettings) (now : ℕ) (s t : State) → IsOpened tells false old store_folder limits now s

@@ -5,14 +5,15 @@ use Rattle.std.specs.Result.{IsErrOf}
 use Rattle.xet_cut.specs.declared.limits.LimitSettings.{LimitSettings}
 use Rattle.xet_io.specs.Disk.{Files}
 use Rattle.xet_io.specs.Named.{Named}
-use Rattle.xet_folder.specs.Contents.{HasContents}
 use Rattle.xet_store.specs.Cleaning.{Keeps}
 use Rattle.xet_store.specs.Opening.{IsOpened, contents_of}
 use Rattle.xet_steps.specs.Recorded.{RecordedState}
 use Rattle.xet_store.specs.Store.{Sound, State}
 use Rattle.xet_program.specs.declared.ending.Stop.{Stop}
 use Rattle.xet_program.specs.declared.ending.Stop.TheVariants as stop
+use Rattle.xet_program.specs.Allowed.{are_short}
 use Rattle.xet_program.specs.Answers.{AreSeparate}
+use Rattle.xet_program.specs.Ending.{CanOpen}
 use Rattle.xet_program.specs.Lines.{files_of}
 use Rattle.xet_program.specs.internal.Parsing.{ForLines, Said}
 use Rattle.xet_program.specs.Report.{IsReport, file_line}
@@ -31,13 +32,14 @@ module _ (inputs_tell : Bool) (inputs : Named (List ℕ)) (names : List (List �
     files = x.files;
     named = x.named;
     count = x.count;
+    short = λ told. subst (λ (l : LimitSettings). are_short l x.files ≡ true) opened.same_limits (x.short told);
     lines = x.lines ∙ ap (λ (l : LimitSettings). flat_map (file_line l) x.files) opened.same_limits;
     stored = λ inputs_told told.
         let here = opened.same_tells ∙ told in
         are_stored tells disk files default_limits now s t told opened sound keeps is x.files (x.recorded inputs_told here) (x.made here);
   }
 
-  pub cleaned_text : Sound s → Keeps s t → files ≡ t.files → (tells ≡ true → HasContents disk store_folder now (contents_of s)) → (r : Answer) → IfOk r (λ text. IsCleaned inputs_tell inputs names s t text.items)
+  pub cleaned_text : Sound s → Keeps s t → files ≡ t.files → (tells ≡ true → CanOpen disk now (contents_of s)) → (r : Answer) → IfOk r (λ text. IsCleaned inputs_tell inputs names s t text.items)
       → IfOk r (λ text. ForValid tells disk now (λ contents. IsCleanText inputs_tell inputs names tells disk files now text.items))
   cleaned_text sound keeps is valid (Ok t) x = (contents_of s, valid, text_of sound keeps is t.items x)
   cleaned_text sound keeps is valid (Err e) x = tt

@@ -62,11 +62,11 @@ module _ {S : Type 0} (inputs_tell : Bool) (inputs : Named (List ℕ)) (tells : 
   stop_of_names names sources after s t stop.Input opened h = tt
   stop_of_names names sources after s t stop.TooLarge opened (inl (i, long)) = inl (λ told.
       (map left sources, opened_named names sources told opened, long_one tells left s.store.limits.max_source_bytes sources i (opened_tell names sources told opened) long))
-  stop_of_names names sources after s t stop.TooLarge opened (inr full) = inr full
+  stop_of_names names sources after s t stop.TooLarge opened (inr full) = inr (λ told. (map left sources, opened_named names sources told opened), full)
   stop_of_names names sources after s t stop.Disk opened h = tt
-  stop_of_names names sources after s t stop.Malformed opened h = λ inputs_told told.
+  stop_of_names names sources after s t stop.Malformed opened h = λ inputs_told.
       let e = sym (chunked_map left s.store.limits sources) in
-      (map left sources, opened_named names sources inputs_told opened, λ apart. h told (opened_tell names sources inputs_told opened) (subst (AreApartUnder t) e apart.0) (subst NoneEnds e apart.1))
+      (map left sources, opened_named names sources inputs_told opened, λ told apart. h told (opened_tell names sources inputs_told opened) (subst (AreApartUnder t) e apart.0) (subst NoneEnds e apart.1))
   stop_of_names names sources after s t stop.NotFound opened h = absurd h
   stop_of_names names sources after s t (stop.BadLine n) opened h = absurd h
   stop_of_names names sources after s t (stop.BadShard name) opened h = absurd h

@@ -9,7 +9,6 @@ use Rattle.xet_io.specs.Disk.{Files}
 use Rattle.xet_io.specs.Whole.{ReadsAll}
 use Rattle.xet_io.specs.declared.whole.Unread.{Unread}
 use Rattle.xet_io.specs.declared.whole.Unread.TheVariants as unread
-use Rattle.xet_folder.specs.Contents.{HasContents}
 use Rattle.xet_folder.specs.declared.contents.Contents.{Contents}
 use Rattle.xet_folder.specs.Names.{IsForeign}
 use Rattle.xet_cut.specs.declared.limits.LimitSettings.{LimitSettings}
@@ -25,7 +24,7 @@ use Rattle.xet_program.specs.Reasons.{AreApart, IsMalformed}
 use Rattle.xet_steps.specs.Recorded.{RecordedState}
 use Rattle.xet_program.specs.internal.Answered.{Answered}
 use Rattle.xet_program.specs.Answers.{PackAnswer}
-use Rattle.xet_program.specs.Ending.{MayEnd}
+use Rattle.xet_program.specs.Ending.{CanOpen, HasOpened, MayEnd}
 use Rattle.xet_program.specs.internal.Parsing.{IsSaid, Said, are_good, parted}
 use Rattle.xet_program.specs.internal.Stops.{IsStop, answer_outcome, parsing_causes, reading_causes, session_causes, stop_of_unread, storing_causes}
 use Rattle.xet_program.specs.Stored.{AreStored, IsAdmittedAt, KeepsFolder, KeepsListed, Works}
@@ -180,11 +179,15 @@ pub record StandsAt (s : LimitSettings) (workers : ℕ) (start : Start) (new : F
 
 module _ (s : LimitSettings) (workers : ℕ) (start : Start) (new : Files) (said : Said) where
   abbrev Valid : Type 0
-  Valid = (contents : Contents) × (start.tells ≡ true → HasContents start.files store_folder start.now contents)
+  Valid = (contents : Contents) × (start.tells ≡ true → CanOpen start.files start.now contents)
 
   -- collisions among its files are those of what the input says
   malformed_said : (start.input_tells ≡ true → IsSaid start.input said) → (start.tells ≡ true → AreApart new start.now s said.files → ⊥) → IsMalformed (Some (Pack s workers)) start new
   malformed_said is never = λ observes told apart. never told (subst (λ (x : Said). AreApart new start.now s x.files) (is (observes.0 tt)).parts apart)
+
+  -- the folder was opened
+  pack_opened : (start.input_tells ≡ true → IsSaid start.input said) → (contents : Contents) → (start.tells ≡ true → CanOpen start.files start.now contents) → HasOpened (Some (Pack s workers)) start
+  pack_opened is contents can = record { early = λ observes. (is (observes.0 tt)).fine; folder = λ told. (contents, can told, tt); names = λ inputs_told lacks. lacks }
 
   end_read : (r : Result (Vec ℕ Global) Stop) → (start.input_tells ≡ true → IsSaid start.input said) → are_short s said.files ≡ true → OnOk r Valid
       → IfErr r (IsStop (storing_causes start.tells s said start.now start.files new)) → IfOk r (λ text. PackAnswer s start new (answer_outcome (Ok text))) → MayEnd (Some (Pack s workers)) start new (answer_outcome r)
@@ -193,9 +196,10 @@ module _ (s : LimitSettings) (workers : ℕ) (start : Start) (new : Files) (said
   end_read (Err OutOfMemory) is short valid stop report = MayEnd.stopped (inl refl) refl
   end_read (Err Disk) is short valid stop report = MayEnd.stopped (inr (inr (inr (refl, tt, λ observes. (is (observes.0 tt)).fine)))) refl
   end_read (Err TooLarge) is short valid (inl long) report = absurd (false≢true (sym long ∙ short))
-  end_read (Err TooLarge) is short valid (inr many) report = MayEnd.full tt (λ observes. (is (observes.0 tt)).fine) many refl
+  end_read (Err TooLarge) is short valid (inr (inl many)) report = MayEnd.too_many tt (λ observes. (is (observes.0 tt)).fine) many refl
+  end_read (Err TooLarge) is short valid (inr (inr (contents, can, many))) report = MayEnd.full tt (pack_opened is contents can) many refl
   end_read (Err (BadShard name)) is short valid stop report = MayEnd.refused tt (λ observes. (is (observes.0 tt)).fine) record { name = name; named = stop.0; fails = stop.1; is = refl }
-  end_read (Err Malformed) is short valid stop report = MayEnd.malformed tt (λ observes. (is (observes.0 tt)).fine) (malformed_said is stop) refl
+  end_read (Err Malformed) is short valid (contents, can, never) report = MayEnd.malformed (pack_opened is contents can) (malformed_said is never) refl
   end_read (Err Input) is short valid stop report = absurd stop
   end_read (Err NotFound) is short valid stop report = absurd stop
   end_read (Err (BadLine n)) is short valid stop report = absurd stop
@@ -212,7 +216,7 @@ module _ (s : LimitSettings) (workers : ℕ) (start : Start) (new : Files) (said
     absent = λ inputs_told told lacks. absurd lacks;
     kept = stands.kept;
     foreign = stands.foreign;
-    malformed = λ ten. malformed_said is (malformed_of_ten (IsStop (storing_causes start.tells s said start.now start.files new)) r stop ten);
+    malformed = λ ten. malformed_said is (malformed_of_ten (IsStop (storing_causes start.tells s said start.now start.files new)) r stop ten).2;
   }
 
   pub answered_read : (r : Result (Vec ℕ Global) Stop) → (start.input_tells ≡ true → IsSaid start.input said) → are_short s said.files ≡ true → OnOk r Valid

@@ -123,24 +123,24 @@ pub no_bounds : (cleaned : Result Cleaned Stop) → IfOk cleaned (λ x. All (λ 
 no_bounds (Ok x) = λ i d below. omega arith
 no_bounds (Err e) = tt
 
-settling_naming : (inputs_tell : Bool) (inputs : Named (List ℕ)) (names : List (List ℕ)) (first before after : RecordedState) (e : Stop) → before.store.tells ≡ first.store.tells → IsStop (settling_causes before.store.tells after) e
+settling_naming : (inputs_tell : Bool) (inputs : Named (List ℕ)) (names : List (List ℕ)) (first before after : RecordedState) (e : Stop) → before.store.tells ≡ first.store.tells → (inputs_tell ≡ true → (files : List (List ℕ)) × AreNamed inputs names files) → IsStop (settling_causes before.store.tells after) e
     → IsStop (naming_causes inputs_tell inputs names first after) e
-settling_naming it is ns first before after stop.OutOfMemory same h = tt
-settling_naming it is ns first before after stop.Disk same h = tt
-settling_naming it is ns first before after stop.Malformed same h = λ inputs_told told. not_told first before same h told
-settling_naming it is ns first before after stop.TooLarge same h = inr h
-settling_naming it is ns first before after stop.Input same h = absurd h
-settling_naming it is ns first before after stop.NotFound same h = absurd h
-settling_naming it is ns first before after (stop.BadLine n) same h = absurd h
-settling_naming it is ns first before after (stop.BadShard name) same h = absurd h
+settling_naming it is ns first before after stop.OutOfMemory same named h = tt
+settling_naming it is ns first before after stop.Disk same named h = tt
+settling_naming it is ns first before after stop.Malformed same named h = λ inputs_told. let n = named inputs_told in (n.0, n.1, λ told apart. not_told first before same h told)
+settling_naming it is ns first before after stop.TooLarge same named h = inr (named, h)
+settling_naming it is ns first before after stop.Input same named h = absurd h
+settling_naming it is ns first before after stop.NotFound same named h = absurd h
+settling_naming it is ns first before after (stop.BadLine n) same named h = absurd h
+settling_naming it is ns first before after (stop.BadShard name) same named h = absurd h
 
 module _ (first before after : RecordedState) (inputs_tell : Bool) (inputs : Named (List ℕ)) (names : List (List ℕ)) where
-  pub stop_names : (cleaned : Result Cleaned Stop) (r : Answer) → before.store.tells ≡ first.store.tells → IfErr cleaned (IsStop (naming_causes inputs_tell inputs names first before))
+  pub stop_names : (cleaned : Result Cleaned Stop) (r : Answer) → before.store.tells ≡ first.store.tells → (inputs_tell ≡ true → (files : List (List ℕ)) × AreNamed inputs names files) → IfErr cleaned (IsStop (naming_causes inputs_tell inputs names first before))
       → OnOk cleaned (IfErr r (IsStop (settling_causes before.store.tells after))) → IfErr cleaned (λ e. IsErrOf r e × (after ≡ before)) → IfErr r (IsStop (naming_causes inputs_tell inputs names first after))
-  stop_names (Ok x) (Ok t) same a b stopped = tt
-  stop_names (Ok x) (Err e) same a b stopped = settling_naming inputs_tell inputs names first before after e same b
-  stop_names (Err e) (Ok t) same a b stopped = tt
-  stop_names (Err e) (Err f) same a b (is_r, kept) =
+  stop_names (Ok x) (Ok t) same named a b stopped = tt
+  stop_names (Ok x) (Err e) same named a b stopped = settling_naming inputs_tell inputs names first before after e same named b
+  stop_names (Err e) (Ok t) same named a b stopped = tt
+  stop_names (Err e) (Err f) same named a b (is_r, kept) =
       let here : f ≡ e = cc is_r in
       subst (λ (s : RecordedState). IsStop (naming_causes inputs_tell inputs names first s) f) (sym kept) (subst (IsStop (naming_causes inputs_tell inputs names first before)) (sym here) a)
 
@@ -153,6 +153,7 @@ module _ (first before after : RecordedState) (inputs_tell : Bool) (inputs : Nam
     named = λ told.
         subst (AreNamed inputs names) (sym (files_of_sources tells left sources c.files c.each (opened_tell inputs_tell inputs tells left faults names sources told opened))) (opened_named inputs_tell inputs tells left faults names sources told opened);
     count = count_of_sources tells left sources c.files c.each ∙ opened_count inputs_tell inputs tells left faults names sources opened;
+    short = λ told. c.short (opened_tell inputs_tell inputs tells left faults names sources told opened);
     lines = is ∙ ap (λ (l : List ℕ). flat_map info_line x.infos.items ++ l) none ∙ append-nil (flat_map info_line x.infos.items) ∙ ap (flat_map info_line) c.told ∙ lines_of_infos first.store.limits c.files;
     recorded = λ inputs_told told. recorded_of first before after c.files (done inputs_told) settled told;
     made = λ told. made_in first before after c.files c.entries c.steps c.only settled steps.flushed steps.recorded told c.recorded;

@@ -15,7 +15,7 @@ use Rattle.xet_cut.specs.Chunking.{chunking}
 use Rattle.xet_cut.specs.Limits.{AreInRange}
 use Rattle.xet_store.specs.Opening.{contents_of}
 use Rattle.xet_store.specs.Ranges.{IsRange}
-use Rattle.xet_store.specs.Separate.{Among, IsMet, IsNamed, Separate, SeparateIn}
+use Rattle.xet_store.specs.Separate.{Among, IsNamed, Separate, SeparateIn}
 use Rattle.xet_store.specs.Store.{State, Sound}
 use Rattle.xet_history.specs.Core.{Core, is_new}
 use Rattle.xet_history.specs.History.{after_all}
@@ -138,19 +138,19 @@ module _ (first before after : RecordedState) (files : List (List ℕ)) (done : 
         let listed_then : is_new (after_all (core_of first) (done.entries ++ settled.entries)).xorbs h ≡ false = subst (λ (c : Core). is_new c.xorbs h ≡ false) steps.moves.leads listed in
         in_core told h (subst (λ (c : Core). Names c h) (sym steps.moves.leads) (listed_named (core_of first) (done.entries ++ settled.entries) h (new_if_none first.store.xorbs h e) listed_then))
 
-    -- each xorb that is then listed is met in the folder
-    all_met : first.store.tells ≡ true → (h : List ℕ) → IsSome (found before.store.xorbs h) → IsMet after.store.files after.store.folder after.store.opened first.store.limits chunked h
-    all_met told h is = go (found before.store.xorbs h) refl is
+    -- each xorb that is then listed is named by a shard
+    all_named : first.store.tells ≡ true → (h : List ℕ) → IsSome (found before.store.xorbs h) → IsNamed after.store.files after.store.folder after.store.opened h
+    all_named told h is = go (found before.store.xorbs h) refl is
       where
-        go : (o : Option Leaves) → found before.store.xorbs h ≡ o → IsSome o → IsMet after.store.files after.store.folder after.store.opened first.store.limits chunked h
+        go : (o : Option Leaves) → found before.store.xorbs h ≡ o → IsSome o → IsNamed after.store.files after.store.folder after.store.opened h
         go None e bad = absurd (cc bad)
-        go (Some leaves) e ok = inl (named_either told h (not_new_if_found after.store.xorbs h leaves (ap (λ (x : Xorbs). found x h) settled.xorbs ∙ e)) (found first.store.xorbs h) refl)
+        go (Some leaves) e ok = named_either told h (not_new_if_found after.store.xorbs h leaves (ap (λ (x : Xorbs). found x h) settled.xorbs ∙ e)) (found first.store.xorbs h) refl
 
-    separates : first.store.tells ≡ true → SeparateIn after.store.files store_folder first.store.opened first.store.limits chunked → Separate before.store chunked
+    separates : first.store.tells ≡ true → SeparateIn after.store.files store_folder first.store.opened chunked → Separate before.store chunked
     separates told apart =
-        let by_folder : SeparateIn after.store.files after.store.folder first.store.opened first.store.limits chunked = subst (λ (f : List ℕ). SeparateIn after.store.files f first.store.opened first.store.limits chunked) (sym folder_after) apart in
-        separate_by_folder before.store after.store (done.steps.cleaned.tells ∙ told) done.steps.sound done.steps.flushed done.steps.keeps settled.records settled.nothing_pending first.store.limits chunked (all_met told)
-        (subst (λ (n : ℕ). SeparateIn after.store.files after.store.folder n first.store.limits chunked) (sym opened_after) by_folder)
+        let by_folder : SeparateIn after.store.files after.store.folder first.store.opened chunked = subst (λ (f : List ℕ). SeparateIn after.store.files f first.store.opened chunked) (sym folder_after) apart in
+        separate_by_folder before.store after.store (done.steps.cleaned.tells ∙ told) done.steps.sound done.steps.flushed done.steps.keeps settled.records settled.nothing_pending chunked (all_named told)
+        (subst (λ (n : ℕ). SeparateIn after.store.files after.store.folder n chunked) (sym opened_after) by_folder)
 
     each_after : (cs : List (List (List ℕ))) → first.store.tells ≡ true → AllByRecursion (HasFile before.store) cs → AllByRecursion (HasFile after.store) cs
     each_after [] told all = tt
@@ -168,14 +168,14 @@ module _ (first before after : RecordedState) (files : List (List ℕ)) (done : 
           is = is ∙ ap (λ (i : List XetFileInfo). flat_map info_line i ++ read_lines) infos_are ∙ ap (λ (t : List ℕ). t ++ read_lines) (lines_of_infos first.store.limits files)
               ∙ ap (λ (x : Said). flat_map (file_line first.store.limits) x.files ++ read_lines) (sym parts);
           exact = λ given.
-              let apart : SeparateIn after.store.files store_folder first.store.opened first.store.limits chunked = subst (λ (x : Said). SeparateIn after.store.files store_folder first.store.opened first.store.limits (map (chunking first.store.limits) x.files)) parts given.1 in
+              let apart : SeparateIn after.store.files store_folder first.store.opened chunked = subst (λ (x : Said). SeparateIn after.store.files store_folder first.store.opened (map (chunking first.store.limits) x.files)) parts given.1 in
               lines_exact after.store first.store.limits files (done.steps.keeps.tells ∙ done.steps.cleaned.tells ∙ given.0) done.steps.fits (each_after chunked given.0 (done.has given.0 (separates given.0 apart))) ranges read_lines good read_of
               ∙ ap (λ (x : Said). flat_map (λ r. bytes_line (unwrap_or (range_bytes x.files r) [])) x.ranges) (sym parts);
           none = λ none. subst (λ (rs : List FileRange). AreRead after.store infos rs read_lines) (ap (λ (x : Said). x.ranges) (sym parts) ∙ none) read;
         }
 
     -- what is recorded
-    record_one : first.store.tells ≡ true → SeparateIn after.store.files store_folder first.store.opened first.store.limits chunked → (bytes : List ℕ) → Among chunked (chunking first.store.limits bytes) → HasFile before.store (chunking first.store.limits bytes) → bytes ≢ []
+    record_one : first.store.tells ≡ true → SeparateIn after.store.files store_folder first.store.opened chunked → (bytes : List ℕ) → Among chunked (chunking first.store.limits bytes) → HasFile before.store (chunking first.store.limits bytes) → bytes ≢ []
         → IsRecordedIn first.store.limits after.store.files first.store.opened bytes
     record_one told apart bytes given there some =
         let chunks = chunking first.store.limits bytes in
@@ -189,7 +189,7 @@ module _ (first before after : RecordedState) (files : List (List ℕ)) (done : 
           resolves = subst (λ (f : List ℕ). ResolvesTo after.store.files f r.0 chunks) folder_after r.3;
         }
 
-    record_all : first.store.tells ≡ true → SeparateIn after.store.files store_folder first.store.opened first.store.limits chunked → (fs : List (List ℕ)) → ((c : List (List ℕ)) → Among (map (chunking first.store.limits) fs) c → Among chunked c)
+    record_all : first.store.tells ≡ true → SeparateIn after.store.files store_folder first.store.opened chunked → (fs : List (List ℕ)) → ((c : List (List ℕ)) → Among (map (chunking first.store.limits) fs) c → Among chunked c)
         → AllByRecursion (HasFile before.store) (map (chunking first.store.limits) fs) → AllByRecursion (λ bytes. bytes ≢ [] → IsRecordedIn first.store.limits after.store.files first.store.opened bytes) fs
     record_all told apart [] given all = tt
     record_all told apart (f ∷ fs) given all =

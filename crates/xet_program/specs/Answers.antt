@@ -30,7 +30,7 @@ use Rattle.xet_program.specs.Stored.{AreStored}
 
 -- The disk is observable, and there are no collisions among the data seen in its folder and in these files.
 abbrev pub AreSeparate : Bool → Files → ℕ → LimitSettings → List (List ℕ) → Type 0
-AreSeparate tells disk now s files = (tells ≡ true) × SeparateIn disk store_folder now s (map (chunking s) files)
+AreSeparate tells disk now s files = (tells ≡ true) × SeparateIn disk store_folder now (map (chunking s) files)
 
 -- `pack`: a report of what an input says whose lines and ranges are good; it is this input, if that is
 -- observable. Its files are stored, if the disk is observable.
@@ -46,12 +46,13 @@ pub record PackAnswer (s : LimitSettings) (start : Start) (new : Files) (o : Out
 abbrev pub AreNamed : Named (List ℕ) → List (List ℕ) → List (List ℕ) → Type 0
 AreNamed inputs names files = map (get inputs) names ≡ map Some files
 
--- `clean`: the line of each file, in order; the files are those under the names, if these are observable. They are
--- stored, if the disk is observable too.
+-- `clean`: the line of each file, in order; the files are those under the names, if these are observable, and none is longer
+-- than a source may be. They are stored, if the disk is observable too.
 pub record IsCleanReport (names : List (List ℕ)) (start : Start) (new : Files) (o : Outcome) : Type 0 where
   pub files : List (List ℕ)
   pub named : start.inputs_tell ≡ true → AreNamed start.inputs names files
   pub count : length files ≡ length names
+  pub short : start.inputs_tell ≡ true → are_short default_limits files ≡ true
   pub status : o.status ≡ 0
   pub text : o.text ≡ flat_map (file_line default_limits) files
   pub stored : start.inputs_tell ≡ true → start.tells ≡ true → AreStored default_limits files start.now start.files new

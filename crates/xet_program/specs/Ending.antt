@@ -5,11 +5,11 @@ use Rattle.xet_hash.specs.declared.error.StoreError.{StoreError}
 use Rattle.xet_shard_format.specs.Names.{shard_name}
 use Rattle.xet_shard_file.specs.Names.{IsHash}
 use Rattle.xet_folder.specs.Admission.{Refuses}
-use Rattle.xet_folder.specs.Contents.{HasContents}
+use Rattle.xet_folder.specs.Contents.{HasContents, HasTooMany, max_shards}
 use Rattle.xet_folder.specs.declared.contents.Contents.{Contents}
 use Rattle.xet_program.specs.Words.{Command}
 use Rattle.xet_program.specs.Words.Command.{Pack, Clean, Make, Read, ListFiles, Group}
-use Rattle.xet_program.specs.Start.{Observes, OpensInputs, ReadsInput, Start}
+use Rattle.xet_program.specs.Start.{LacksName, Observes, OpensInputs, ReadsInput, Start}
 use Rattle.xet_program.specs.Early.{IsEarly, Outcome, early_outcome, max_input, outcome, pack_early}
 use Rattle.xet_program.specs.Tasks.{default_limits, files_to_store, limits_of, store_folder}
 use Rattle.xet_program.specs.Reasons.{AreApart, IsFull, IsMalformed}
@@ -30,6 +30,13 @@ OpensStore None = ⊥
 OpensStore (Some Group) = ⊥
 OpensStore (Some _) = Unit {0}
 
+-- The command stores files.
+abbrev pub StoresFiles : Option Command → Type 0
+StoresFiles (Some (Pack s workers)) = Unit {0}
+StoresFiles (Some (Clean names)) = Unit {0}
+StoresFiles (Some (Make seed bytes)) = Unit {0}
+StoresFiles _ = ⊥
+
 -- A shard of the folder is the first with which a check fails, if the disk is observable; its file name is printed.
 pub record IsRejected (start : Start) (o : Outcome) : Type 0 where
   pub name : List ℕ
@@ -37,17 +44,29 @@ pub record IsRejected (start : Start) (o : Outcome) : Type 0 where
   pub fails : start.tells ≡ true → (e : StoreError) × Refuses start.files store_folder start.now e name
   pub is : o ≡ outcome 7 (bad_shard_text name)
 
--- The folder is valid, if the disk is observable, and this is what the command answers.
+-- The folder is valid at a time, with these contents, and no more of its shards are unexpired than can be registered.
+pub record CanOpen (disk : Files) (now : ℕ) (contents : Contents) : Type 0 where
+  pub valid : HasContents disk store_folder now contents
+  pub few : length contents.shards ≤ max_shards
+
+-- The folder can be opened, if the disk is observable, and this is what the command answers.
 pub record IsAnswer (command : Option Command) (start : Start) (new : Files) (o : Outcome) : Type 0 where
   pub asked : Command
   pub is : command ≡ Some asked
   pub contents : Contents
-  pub valid : start.tells ≡ true → HasContents start.files store_folder start.now contents
+  pub valid : start.tells ≡ true → CanOpen start.files start.now contents
   pub answer : Answers asked start contents new o
 
--- The folder is valid at the start, and its contents have this.
+-- The folder can be opened at the start, and its contents have this.
 abbrev pub ForContents : Start → (Contents → Type 0) → Type 0
-ForContents start P = (contents : Contents) × HasContents start.files store_folder start.now contents × P contents
+ForContents start P = (contents : Contents) × CanOpen start.files start.now contents × P contents
+
+-- What the run of a command has found once its store is open: nothing was due before; if the disk is observable, the folder can
+-- be opened; and if the inputs are, each name exists that is opened.
+pub record HasOpened (command : Option Command) (start : Start) : Type 0 where
+  pub early : Observes start command → early_outcome command start.input ≡ None
+  pub folder : start.tells ≡ true → ForContents start (λ contents. Unit {0})
+  pub names : start.inputs_tell ≡ true → LacksName command start → ⊥
 
 -- A run of a command is stopped before it prints if memory is out; if the input fails while it is read; if a file that
 -- is opened by name fails, once the folder was found valid; or if the disk fails on which the store is opened, once
@@ -57,16 +76,19 @@ IsStoppedSilent command start status =
     (status ≡ 1) ⊎ ((status ≡ 4) × ReadsInput command) ⊎ ((status ≡ 4) × OpensInputs command × (start.tells ≡ true → ForContents start (λ contents. Unit {0})))
     ⊎ ((status ≡ 6) × OpensStore command × (Observes start command → early_outcome command start.input ≡ None))
 
--- How the run of a command may end: before its store is opened, as is due then; at a shard that fails a check; with
--- its answer; stopped, with no text; because the folder is full; or because a stored xorb changed after it was verified,
--- which needs a disk that is not observable, or because there are collisions.
+-- How the run of a command may end: before its store is opened, as is due then; at a shard that fails a check, or because the
+-- folder has too many shards; with its answer; stopped, with no text; and once the store is open and the names are, because the
+-- folder is full in which files are stored; or because a stored xorb changed after it was verified, which needs a disk that is
+-- not observable, or because there are collisions.
 pub data MayEnd (command : Option Command) (start : Start) (new : Files) (o : Outcome) : Type 0 where
   early : (Observes start command → early_outcome command start.input ≡ Some o) → IsEarly command o → MayEnd command start new o
   refused : OpensStore command → (Observes start command → early_outcome command start.input ≡ None) → IsRejected start o → MayEnd command start new o
+  too_many : OpensStore command → (Observes start command → early_outcome command start.input ≡ None) → (start.tells ≡ true → HasTooMany start.files store_folder start.now) → o ≡ outcome 9 []
+      → MayEnd command start new o
   answered : (Observes start command → early_outcome command start.input ≡ None) → IsAnswer command start new o → MayEnd command start new o
   stopped : IsStoppedSilent command start o.status → o.text ≡ [] → MayEnd command start new o
-  full : OpensStore command → (Observes start command → early_outcome command start.input ≡ None) → (start.tells ≡ true → IsFull new start.now) → o ≡ outcome 9 [] → MayEnd command start new o
-  malformed : OpensStore command → (Observes start command → early_outcome command start.input ≡ None) → IsMalformed command start new → o ≡ outcome 10 [] → MayEnd command start new o
+  full : StoresFiles command → HasOpened command start → (start.tells ≡ true → IsFull new start.now) → o ≡ outcome 9 [] → MayEnd command start new o
+  malformed : HasOpened command start → IsMalformed command start new → o ≡ outcome 10 [] → MayEnd command start new o
 
 -- It is cut short while it prints if the output fails or runs out of memory.
 abbrev pub IsCutShort : ℕ → Type 0
@@ -87,8 +109,8 @@ IsStopped status = (status ≡ 1) ⊎ (status ≡ 4) ⊎ (status ≡ 5) ⊎ (sta
 abbrev pub IsSilent : ℕ → Type 0
 IsSilent status = (status ≡ 2) ⊎ (status ≡ 4) ⊎ (status ≡ 6) ⊎ (status ≡ 8) ⊎ (status ≡ 9) ⊎ (status ≡ 10)
 
--- Command, inputs and disk give no cause for another status than 0. Where files are stored there are no collisions, and
--- the folder is not full at the end.
+-- Command, inputs and disk give no cause for another status than 0: the folder can be opened. Where files are stored there are
+-- no collisions, and the folder is not full at the end.
 abbrev pub IsFaultless : Option Command → Start → Files → Type 0
 IsFaultless None start new = ⊥
 IsFaultless (Some (Pack s workers)) start new =
@@ -98,6 +120,6 @@ IsFaultless (Some (Clean names)) start new =
     × AreApart new start.now (limits_of (Clean names)) (files_to_store (Clean names) start) × (IsFull new start.now → ⊥)
 IsFaultless (Some (Make seed bytes)) start new =
     ForContents start (λ contents. Unit {0}) × AreApart new start.now default_limits (made_files seed bytes) × (IsFull new start.now → ⊥)
-IsFaultless (Some (Read h from to)) start new = ForContents start (λ contents. IsNoRange contents.records h from to → ⊥) × (IsFull new start.now → ⊥)
-IsFaultless (Some ListFiles) start new = ForContents start (λ contents. Unit {0}) × (IsFull new start.now → ⊥)
+IsFaultless (Some (Read h from to)) start new = ForContents start (λ contents. IsNoRange contents.records h from to → ⊥)
+IsFaultless (Some ListFiles) start new = ForContents start (λ contents. Unit {0})
 IsFaultless (Some Group) start new = length start.input ≤ max_input

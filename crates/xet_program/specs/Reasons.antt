@@ -13,7 +13,7 @@ use Rattle.xet_folder.specs.Contents.{max_shards}
 use Rattle.xet_folder.specs.Stored.{IsStored}
 use Rattle.xet_store.specs.Separate.{Among}
 use Rattle.xet_program.specs.Words.{Command}
-use Rattle.xet_program.specs.Words.Command.{Pack, Clean, Make}
+use Rattle.xet_program.specs.Words.Command.{Pack, Clean, Make, Read}
 use Rattle.xet_program.specs.Start.{Observes, Start}
 use Rattle.xet_program.specs.Making.{made_files}
 use Rattle.xet_program.specs.Tasks.{default_limits, files_to_store, limits_of, store_folder}
@@ -41,9 +41,10 @@ pub record IsFull (disk : Files) (now : ℕ) : Type 0 where
   pub many : max_shards ≤ length shards
 
 -- When a run of a command may end with 10: the disk is not observable, or, where files are stored, what the command reads is
--- not, or there are collisions.
+-- not, or there are collisions. The other commands never do.
 abbrev pub IsMalformed : Option Command → Start → Files → Type 0
 IsMalformed (Some (Pack s workers)) start new = Observes start (Some (Pack s workers)) → start.tells ≡ true → AreApart new start.now s (files_to_store (Pack s workers) start) → ⊥
 IsMalformed (Some (Clean names)) start new = Observes start (Some (Clean names)) → start.tells ≡ true → AreApart new start.now (limits_of (Clean names)) (files_to_store (Clean names) start) → ⊥
 IsMalformed (Some (Make seed bytes)) start new = start.tells ≡ true → AreApart new start.now default_limits (made_files seed bytes) → ⊥
-IsMalformed _ start new = start.tells ≡ false
+IsMalformed (Some (Read h from to)) start new = start.tells ≡ false
+IsMalformed _ start new = ⊥

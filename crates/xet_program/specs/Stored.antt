@@ -36,7 +36,7 @@ pub record IsRecorded (s : LimitSettings) (files : Files) (now : ℕ) (bytes : L
 -- empty is recorded.
 abbrev pub Records : LimitSettings → List (List ℕ) → ℕ → Files → Type 0
 Records s stored now files =
-    SeparateIn files store_folder now s (map (chunking s) stored)
+    SeparateIn files store_folder now (map (chunking s) stored)
     → AllByRecursion (λ bytes. bytes ≢ [] → IsRecorded s files now bytes) stored
 
 -- At a time the folder lists a record with this hash.

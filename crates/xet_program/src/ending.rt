@@ -53,9 +53,20 @@ impl From<StoreError> for Stop {
             StoreError::Io(Place::Source(_)) => Stop::Input,
             StoreError::Io(_) => Stop::Disk,
             StoreError::TooLarge(_) => Stop::TooLarge,
-            StoreError::MalformedData(_) => Stop::Malformed,
-            // `OutOfMemory`. Of the others only `FileNotFound` and `InvalidRange` can occur, and only if digests collide.
-            _ => Stop::OutOfMemory,
+            StoreError::MalformedData(_)
+            | StoreError::UnexpectedEof
+            | StoreError::ChunkHeaderParse
+            | StoreError::HashMismatch
+            | StoreError::CompressionError(_)
+            | StoreError::InvalidShard(_, _) => Stop::Malformed,
+            StoreError::OutOfMemory => Stop::OutOfMemory,
+            // These two can occur only if digests collide.
+            StoreError::FileNotFound | StoreError::InvalidRange => Stop::OutOfMemory,
+            // No call of the program returns these.
+            StoreError::InvalidArguments
+            | StoreError::TruncatedHashCollision
+            | StoreError::BadFilename
+            | StoreError::BadLimits(_) => Stop::OutOfMemory,
         }
     }
 }

@@ -12,7 +12,7 @@ ghost use Rattle.xet_program.specs.internal.Answered.{AnsweredByInput};
 ghost use Rattle.xet_program.specs.Lines.{files_of};
 ghost use Rattle.xet_program.specs.internal.Parsing.{ForLines, IsSaid, are_good};
 ghost use Rattle.xet_program.specs.Words.Command.{Pack};
-ghost use Rattle.xet_folder.specs.Contents.{HasContents};
+ghost use Rattle.xet_program.specs.Ending.{CanOpen};
 ghost use Rattle.xet_folder.specs.declared.contents.Contents.{Contents};
 ghost use Rattle.xet_program.specs.Report.{IsReport};
 ghost use Rattle.xet_program.specs.internal.Stops.{IsStop, answer_outcome, reading_causes, storing_causes};
@@ -92,7 +92,7 @@ fn store_lines<D: Disk + Send, R: Threads + Wait + Sync>(
     requires good { are_good lines.now ≡ true }
     requires short { are_short limits.now lines.now.files ≡ true }
     requires workers { (1 ≤ workers) × (workers ≤ 256) }
-    ensures valid { OnOk result.1 ((contents : Contents) × (D.tells disk ≡ true → HasContents (D.files disk) store_folder now contents)) }
+    ensures valid { OnOk result.1 ((contents : Contents) × (D.tells disk ≡ true → CanOpen (D.files disk) now contents)) }
     ensures report { IfOk result.1 (λ text. ForLines lines.now (λ said. IsReport (AreSeparate (D.tells disk) (D.files result.0) now limits.now (files_of said)) limits.now said text.items)) }
     ensures stop { IfErr result.1 (IsStop (storing_causes (D.tells disk) limits.now lines.now now (D.files disk) (D.files result.0))) }
     ensures stored { D.tells disk ≡ true → OnOk result.1 (AreStored limits.now lines.now.files now (D.files disk) (D.files result.0)) }

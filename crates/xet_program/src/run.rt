@@ -37,17 +37,18 @@ use xet_io::{Disk, Inputs, Sink, Source};
 /// | 4, 5, 6 | the input or a file, the output, or the disk failed in this call |
 /// | 7 | the folder `store` is not valid; prints `bad shard NAME` for the first shard that fails a check |
 /// | 8 | there is no such range, no such file, or no such name |
-/// | 9 | the input is longer than 2^31 bytes, or a file is longer than a source may be; or the folder has as many unexpired shards as can be registered, 2^32 - 1 |
+/// | 9 | the input is longer than 2^31 bytes, or a file is longer than a source may be; or the folder has more unexpired shards than can be registered, 2^32 - 1; or, of `pack`, `clean` and `make`, at least as many at the end |
 /// | 10 | a stored xorb changed after it was verified, which needs a disk that is not observable; or chunks of the files and of stored xorbs collide |
 ///
-/// A status but 1, 4, 5 and 6 is returned only if it is due, and of several that apply the first is due, in the order
-/// of the command's tests: `pack` 2, 9, 3, 8, 7; `clean` 2, 7, 8, 9; `make` 2, 7; `read` 2, 7, 8; `list` 2, 7; `group`
-/// 2, 9. If the folder is full, 9 comes, by the code once the folder was found valid. The run may be stopped with 1
-/// before it prints and, if another status than 2 is due, with 4 or 6, and has then printed nothing. An answer is
-/// printed once it is complete, and once files are stored and, except by `make`, recorded. A text may be cut short
-/// after a prefix of it, with 5, or with 1 if the output has no memory. No other status is returned, and 2, 4, 6, 8, 9
-/// and 10 print nothing, also if inputs and disk are not observable. Clauses about contents apply to inputs, outputs
-/// and disks that are observable.
+/// A status but 1, 4, 5, 6, 10 and the 9 for the number of shards is returned only if it is due, and of several that
+/// apply the first is due, in the order of the command's tests: `pack` 2, 9, 3, 8, 7; `clean` 2, 7, 8, 9; `make` 2, 7;
+/// `read` 2, 7, 8; `list` 2, 7; `group` 2, 9. A folder that has too many shards gives 9 in place of an answer; one that
+/// is full gives it to `pack`, `clean` and `make` alone, once the folder was opened and no name is absent. The run may
+/// be stopped with 1 before it prints and, if another status than 2 is due, with 4 or 6, and has then printed nothing.
+/// An answer is printed once it is complete, and once files are stored and, except by `make`, recorded. A text may be
+/// cut short after a prefix of it, with 5, or with 1 if the output has no memory. No other status is returned, and 2,
+/// 4, 6, 8, 9 and 10 print nothing, also if inputs and disk are not observable. Clauses about contents apply to inputs,
+/// outputs and disks that are observable.
 pub fn run_program<I, O, D, F, R>(
     alloc: Global,
     rt: &R,

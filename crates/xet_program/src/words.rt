@@ -12,7 +12,7 @@ ghost use Rattle.xet_program.specs.internal.Asked.{AllowsInput, asked, workers_g
 
 use std::alloc::{AllocError, Global};
 use xet_arguments::{
-    clean_arguments, has_option, make_arguments, no_arguments, pack_arguments, read_arguments,
+    has_option, make_arguments, no_arguments, pack_arguments, read_arguments, some_arguments,
 };
 use xet_cut::{LimitSettings, Limits, gear_table};
 use xet_hash::{DataHash, MerkleHash};
@@ -106,11 +106,8 @@ fn clean_of<'a>(alloc: Global, names: &'a [String]) -> Result<Option<Command<'a>
     requires { list_any is_option (map string_bytes names.now) ≡ false }
     ensures { IfOk result (λ found. option_map asked found ≡ clean_of (map string_bytes names.now)) }
 {
-    let found = clean_arguments(alloc, names)?;
-    match found {
-        Some(_texts) => Ok(clean_by(names)),
-        None => Ok(None),
-    }
+    let some = some_arguments(alloc, names)?;
+    if some { Ok(clean_by(names)) } else { Ok(None) }
 }
 
 /// `clean` with these names.

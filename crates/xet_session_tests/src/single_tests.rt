@@ -7,15 +7,14 @@ use std::alloc::{AllocError, Global};
 use std::marker::Brand;
 use std::sync::Wait;
 use std::test::Fail;
-use xet_clean::{FinishedFile, Sha256Policy, clean_bytes};
 use xet_cut::{LimitSettings, Limits};
 use xet_hash::{MerkleHash, StoreError, What};
 use xet_io::MemoryDisk;
-use xet_locked_session::{LockedSession, Naming, Opened, Pass};
+use xet_session::{
+    Finished, LockedSession, Naming, Opened, Pass, Session, Sha256Policy, SingleFileCleaner,
+    XetFileInfo, clean_bytes,
+};
 use xet_shard_format::Sha256;
-use xet_single_file::SingleFileCleaner;
-use xet_steps::Store;
-use xet_store::XetFileInfo;
 
 /// The SHA-256 of `some data`.
 const DIGEST: &str = "1307990e6ba5ca145eb35e99182a9bec46531bc54ddf656a602c780fa0240dee";
@@ -49,10 +48,10 @@ fn add_both<J: Naming, R: Wait>(
 }
 
 /// The pointer record of a file that has ended.
-fn info_of(file: Result<FinishedFile, StoreError>) -> Result<XetFileInfo, StoreError> {
+fn info_of(file: Result<Finished, StoreError>) -> Result<XetFileInfo, StoreError> {
     match file {
         Ok(file) => {
-            let FinishedFile {
+            let Finished {
                 info,
                 metrics: _,
                 choices: _,
@@ -108,10 +107,10 @@ fn clean_in<J: Naming, R: Wait>(
     rt: &R,
     alloc: Global,
     opened: Opened,
-    store: Store<MemoryDisk>,
+    store: Session<MemoryDisk>,
     bytes: &[u8],
     policy: Sha256Policy,
-) -> (Store<MemoryDisk>, Result<Cleaned, StoreError>)
+) -> (Session<MemoryDisk>, Result<Cleaned, StoreError>)
     requires table { opened.word ≡ J.table }
     requires ledger { (opened.blank.name ≡ J.name) × (opened.blank.parts ≡ J.parts) × (J.parts ≡ 2) }
     requires store { store ≡ J.store }
@@ -131,10 +130,10 @@ fn clean_once<R: Wait>(
     rt: &R,
     alloc: Global,
     opened: Opened,
-    store: Store<MemoryDisk>,
+    store: Session<MemoryDisk>,
     bytes: &[u8],
     policy: Sha256Policy,
-) -> (Store<MemoryDisk>, Result<Cleaned, StoreError>)
+) -> (Session<MemoryDisk>, Result<Cleaned, StoreError>)
     requires { opened.blank.parts ≡ 2 }
 {
     clean_in::<Brand, R>(rt, alloc, opened, store, bytes, policy)
@@ -149,7 +148,7 @@ fn opened(alloc: Global) -> Result<Opened, AllocError>
 
 /// A store in the folder `store` of a new disk, with chunks from 64 to 1,024 bytes and blocks of 100, whose sources have at most
 /// so many bytes.
-fn open(alloc: Global, max_source_bytes: u64) -> Result<Store<MemoryDisk>, StoreError> {
+fn open(alloc: Global, max_source_bytes: u64) -> Result<Session<MemoryDisk>, StoreError> {
     let limits = Limits::new(LimitSettings {
         target_chunk: 512,
         minimum_chunk: 64,
@@ -159,7 +158,7 @@ fn open(alloc: Global, max_source_bytes: u64) -> Result<Store<MemoryDisk>, Store
         max_source_bytes,
         ..LimitSettings::shown([0; 256])
     })?;
-    match Store::open(alloc, MemoryDisk::new(alloc), "store", limits, 1_000, false) {
+    match Session::open(alloc, MemoryDisk::new(alloc), "store", limits, 1_000, false) {
         Ok(store) => Ok(store),
         Err(refused) => Err(refused.error),
     }
@@ -285,5 +284,91 @@ fn a_file_of_no_bytes_has_hash_zero_and_size_zero(rt: HostRuntime) -> Result<(),
         assert_eq!(rt; info?, expected);
         assert_eq!(rt; (whole, pass), (true, 1));
     }
+    Ok(())
+}
+
+/// The number of steps that a pass has made once the first four bytes of a file and then the others were added and before the file
+/// has ended, and the number of the pass.
+fn steps_over<J: Naming, R: Wait>(
+    rt: &R,
+    alloc: Global,
+    session: &LockedSession<MemoryDisk, J>,
+    pass: Pass<J>,
+    bytes: &[u8],
+) -> (Result<usize, StoreError>, u32) {
+    match SingleFileCleaner::new(alloc, rt, session, pass, 3, Sha256Policy::Skip) {
+        Ok(mut cleaner) => match add_both(alloc, &mut cleaner, bytes) {
+            Ok(()) => {
+                let pass = cleaner.into_pass();
+                (Ok(pass.own().len()), pass.number())
+            }
+            Err(error) => (Err(error), cleaner.into_pass().number()),
+        },
+        Err((pass, error)) => (Err(error), pass.number()),
+    }
+}
+
+/// The number of steps, over the only pass of a session.
+fn steps_over_only<J: Naming, R: Wait>(
+    rt: &R,
+    alloc: Global,
+    session: &LockedSession<MemoryDisk, J>,
+    mut passes: Vec<Pass<J>>,
+    bytes: &[u8],
+) -> Result<usize, StoreError> {
+    match passes.pop() {
+        Some(pass) => steps_over(rt, alloc, session, pass, bytes).0,
+        None => Err(StoreError::OutOfMemory),
+    }
+}
+
+/// The same, with a session of a store. The store is returned.
+fn steps_in<J: Naming, R: Wait>(
+    rt: &R,
+    alloc: Global,
+    opened: Opened,
+    store: Session<MemoryDisk>,
+    bytes: &[u8],
+) -> (Session<MemoryDisk>, Result<usize, StoreError>)
+    requires table { opened.word ≡ J.table }
+    requires ledger { (opened.blank.name ≡ J.name) × (opened.blank.parts ≡ J.parts) × (J.parts ≡ 2) }
+    requires store { store ≡ J.store }
+    requires going { J.stops ≡ false }
+{
+    match LockedSession::<MemoryDisk, J>::new(alloc, opened, store, 1) {
+        Ok((session, passes)) => {
+            let steps = steps_over_only(rt, alloc, &session, passes, bytes);
+            (session.abandon(), steps)
+        }
+        Err((store, error)) => (store, Err(error)),
+    }
+}
+
+/// The same, with a name of its own.
+fn steps_once<R: Wait>(
+    rt: &R,
+    alloc: Global,
+    opened: Opened,
+    store: Session<MemoryDisk>,
+    bytes: &[u8],
+) -> (Session<MemoryDisk>, Result<usize, StoreError>)
+    requires { opened.blank.parts ≡ 2 }
+{
+    steps_in::<Brand, R>(rt, alloc, opened, store, bytes)
+}
+
+/// The same, with a new store.
+fn steps_before_the_end<R: Wait>(rt: &R, alloc: Global, bytes: &[u8]) -> Result<usize, StoreError> {
+    let opened = opened(alloc)?;
+    let (store, steps) = steps_once(rt, alloc, opened, open(alloc, 1 << 20)?, bytes);
+    let _disk = store.into_disk();
+    steps
+}
+
+#[test]
+fn chunks_are_looked_up_before_the_file_ends(rt: HostRuntime) -> Result<(), Fail> {
+    assert_eq!(rt; steps_before_the_end(&rt, rt.alloc(), b"some data")?, 0);
+    let steps = steps_before_the_end(&rt, rt.alloc(), &SEVENS)?;
+    assert!(rt; 0 < steps);
     Ok(())
 }

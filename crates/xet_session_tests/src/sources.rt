@@ -1,4 +1,4 @@
-//! A source that waits until another was read to its end.
+//! A source that waits until another was read to its end, and one that goes on until another has failed.
 
 ghost use Rattle.std.specs.Prelude.{[], false};
 
@@ -78,4 +78,65 @@ fn has_ended(ended: &AtomicBool) -> bool {
         spin_loop();
     }
     false
+}
+
+/// One of two sources: it fails at its first read and tells so, or it has bytes until the other one has failed, and so many more
+/// reads of them after that.
+#[derive(Drop)]
+pub struct RestlessSource<'a> {
+    failed: &'a AtomicBool,
+    fails: bool,
+    more: u64,
+    faults: u64,
+}
+
+impl<'a> RestlessSource<'a> {
+    /// It fails, and tells so.
+    pub fn failing(failed: &'a AtomicBool) -> RestlessSource<'a> {
+        RestlessSource {
+            failed,
+            fails: true,
+            more: 0,
+            faults: 0,
+        }
+    }
+
+    /// It has bytes until the other one has failed, and then for so many reads.
+    pub fn going(failed: &'a AtomicBool, more: u64) -> RestlessSource<'a> {
+        RestlessSource {
+            failed,
+            fails: false,
+            more,
+            faults: 0,
+        }
+    }
+
+    /// Whether it has no more bytes.
+    pub fn has_ended(&self) -> bool {
+        self.more == 0
+    }
+}
+
+impl Source for RestlessSource<'_> {
+    ghost tells = { λ _. false };
+
+    ghost left = { λ _. [] };
+
+    ghost faults = { λ s. s.faults };
+
+    fn read(&mut self, buf: &mut [u8]) -> Result<usize, Failed> {
+        if self.fails {
+            self.faults = self.faults.saturating_add(1);
+            self.failed.store(true, Ordering::SeqCst);
+            return Err(Failed);
+        }
+        if self.failed.load(Ordering::SeqCst) {
+            if self.more == 0 {
+                return Ok(0);
+            }
+            self.more -= 1;
+        }
+        buf.fill(7);
+        Ok(buf.len())
+    }
 }

@@ -7,14 +7,11 @@ use std::marker::Sync;
 use std::sync::Wait;
 use std::test::Fail;
 use std::thread::Threads;
-use xet_clean::Cleaned;
 use xet_cut::{LimitSettings, Limits};
 use xet_hash::{StoreError, What};
 use xet_history::Entry;
 use xet_io::{MemoryDisk, SliceSource};
-use xet_steps::Store;
-use xet_store::XetFileInfo;
-use xet_workers::clean_files;
+use xet_session::{Cleaned, Session, XetFileInfo, clean_files};
 
 /// A target length of shards, and a maximum length of sources, that nothing here passes.
 const LONG: u64 = 1 << 20;
@@ -27,7 +24,7 @@ fn opened(
     alloc: Global,
     shard_target: u64,
     max_source_bytes: u64,
-) -> Result<Store<MemoryDisk>, StoreError> {
+) -> Result<Session<MemoryDisk>, StoreError> {
     let limits = Limits::new(LimitSettings {
         target_chunk: 512,
         minimum_chunk: 64,
@@ -36,7 +33,7 @@ fn opened(
         max_source_bytes,
         ..LimitSettings::shown([0; 256])
     })?;
-    match Store::open(alloc, MemoryDisk::new(alloc), "store", limits, 1_000, false) {
+    match Session::open(alloc, MemoryDisk::new(alloc), "store", limits, 1_000, false) {
         Ok(store) => Ok(store),
         Err(refused) => Err(refused.error),
     }
@@ -73,7 +70,7 @@ fn letter_of(entry: &Entry) -> char {
 }
 
 /// The history, and the numbers of xorbs, files and shards.
-fn shown(alloc: Global, store: &Store<MemoryDisk>) -> Result<(String, [u64; 3]), StoreError> {
+fn shown(alloc: Global, store: &Session<MemoryDisk>) -> Result<(String, [u64; 3]), StoreError> {
     let history = letters_of(alloc, store.history())?;
     let files = store.files(alloc)?.len() as u64;
     Ok((history, [store.xorb_count(), files, store.shard_count()]))
@@ -100,7 +97,7 @@ fn report_of(
 fn cleans<R: Threads + Wait + Sync>(
     rt: &R,
     alloc: Global,
-    store: Store<MemoryDisk>,
+    store: Session<MemoryDisk>,
     files: [&[u8]; 2],
     workers: u32,
 ) -> Result<Report, StoreError>
@@ -170,9 +167,9 @@ fn a_source_that_is_too_long_is_named(rt: HostRuntime) -> Result<(), Fail> {
 fn clean_pair<R: Threads + Wait + Sync>(
     rt: &R,
     alloc: Global,
-    store: Store<MemoryDisk>,
+    store: Session<MemoryDisk>,
     files: [&[u8]; 2],
-) -> (Store<MemoryDisk>, Result<Vec<XetFileInfo>, StoreError>) {
+) -> (Session<MemoryDisk>, Result<Vec<XetFileInfo>, StoreError>) {
     let mut sources = [SliceSource::new(files[0]), SliceSource::new(files[1])];
     let (store, answer) = clean_files(rt, alloc, store, &mut sources, 2);
     match answer {
@@ -184,7 +181,7 @@ fn clean_pair<R: Threads + Wait + Sync>(
 /// How many files are recorded, and how many segments the plan of the first of some files has.
 fn recorded(
     alloc: Global,
-    store: &Store<MemoryDisk>,
+    store: &Session<MemoryDisk>,
     infos: &Result<Vec<XetFileInfo>, StoreError>,
 ) -> Result<(usize, usize), StoreError> {
     let first = match infos {
@@ -202,7 +199,7 @@ fn recorded(
 fn cleans_more<R: Threads + Wait + Sync>(
     rt: &R,
     alloc: Global,
-    store: Store<MemoryDisk>,
+    store: Session<MemoryDisk>,
 ) -> Result<[(usize, usize); 2], StoreError> {
     let (store, first) = clean_pair(rt, alloc, store, [&ZEROS, b"abc"]);
     let before = recorded(alloc, &store, &first);

@@ -2,20 +2,17 @@
 
 ghost use Rattle.std.specs.Prelude.{◌≤◌};
 
-use crate::sources::HeldSource;
+use crate::sources::{HeldSource, RestlessSource};
 use std::alloc::Global;
 use std::marker::Sync;
 use std::sync::Wait;
 use std::sync::atomic::AtomicBool;
 use std::test::Fail;
 use std::thread::Threads;
-use xet_clean::Cleaned;
 use xet_cut::{LimitSettings, Limits};
 use xet_hash::{MerkleHash, Place, StoreError};
 use xet_io::{FailingSource, MemoryDisk, SliceSource};
-use xet_steps::Store;
-use xet_store::XetFileInfo;
-use xet_workers::clean_files;
+use xet_session::{Cleaned, Session, XetFileInfo, clean_files};
 
 /// A file of several blocks and chunks.
 const SEVENS: [u8; 1000] = [7; 1000];
@@ -31,14 +28,14 @@ fn limits() -> Result<Limits, StoreError> {
         cut_chunks: 8,
         shard_target: 4096,
         block_bytes: 100,
-        max_source_bytes: 1 << 20,
+        max_source_bytes: 1 << 35,
         ..LimitSettings::shown([0; 256])
     })
 }
 
 /// A store in the folder `store` of a new disk.
-fn opened(alloc: Global) -> Result<Store<MemoryDisk>, StoreError> {
-    match Store::open(
+fn opened(alloc: Global) -> Result<Session<MemoryDisk>, StoreError> {
+    match Session::open(
         alloc,
         MemoryDisk::new(alloc),
         "store",
@@ -57,7 +54,7 @@ type Answer = (Vec<XetFileInfo>, Vec<(MerkleHash, u64)>);
 /// The same of a store and what cleaning returned.
 fn answer_of(
     alloc: Global,
-    store: Store<MemoryDisk>,
+    store: Session<MemoryDisk>,
     answer: Result<Cleaned, StoreError>,
 ) -> Result<Answer, StoreError> {
     let files = store.files(alloc);
@@ -94,9 +91,11 @@ fn any_number_of_workers_returns_the_same_records(rt: HostRuntime) -> Result<(),
     let (one, files_of_one) = cleaned(&rt, rt.alloc(), 1)?;
     let (two, files_of_two) = cleaned(&rt, rt.alloc(), 2)?;
     let (seven, files_of_seven) = cleaned(&rt, rt.alloc(), 7)?;
+    let (most, _) = cleaned(&rt, rt.alloc(), 256)?;
     assert_eq!(rt; one.len(), 5);
     assert_eq!(rt; two.as_slice(), one.as_slice());
     assert_eq!(rt; seven.as_slice(), one.as_slice());
+    assert_eq!(rt; most.as_slice(), one.as_slice());
     assert_eq!(rt;
         (files_of_one.len(), files_of_two.len(), files_of_seven.len()),
         (3, 3, 3)
@@ -140,5 +139,32 @@ fn held<R: Threads + Wait + Sync>(rt: &R, alloc: Global) -> Result<Answer, Store
 fn a_source_that_waits_for_another_does_not_stop_it(rt: HostRuntime) -> Result<(), Fail> {
     let (infos, _) = held(&rt, rt.alloc())?;
     assert_eq!(rt; infos.len(), 2);
+    Ok(())
+}
+
+/// The number of reads that a source has left, where it is read by one worker and the source of another fails.
+const MORE: u64 = 1 << 20;
+
+/// Cleans two files by two workers: the second fails at its first read, and the first has bytes until then and long after. The error,
+/// and whether the first was read to its end all the same.
+fn stops<R: Threads + Wait + Sync>(
+    rt: &R,
+    alloc: Global,
+) -> Result<(Option<StoreError>, bool), StoreError> {
+    let failed = AtomicBool::new(false);
+    let mut sources = [
+        RestlessSource::going(&failed, MORE),
+        RestlessSource::failing(&failed),
+    ];
+    let (store, answer) = clean_files(rt, alloc, opened(alloc)?, &mut sources, 2);
+    let has_ended = sources[0].has_ended();
+    Ok((answer_of(alloc, store, answer).err(), has_ended))
+}
+
+#[test]
+fn the_first_error_stops_the_other_workers(rt: HostRuntime) -> Result<(), Fail> {
+    let (error, has_ended) = stops(&rt, rt.alloc())?;
+    assert!(rt; matches!(error, Some(StoreError::Io(Place::Source(1)))));
+    assert!(rt; !has_ended);
     Ok(())
 }

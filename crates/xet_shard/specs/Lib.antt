@@ -1,6 +1,7 @@
 pub mod Bisection
 pub mod Sections
 pub mod Held
+pub mod RunForms
 pub mod Runs
 pub mod LastPlaces
 pub mod Queries

@@ -64,7 +64,8 @@ fn open(
     disk: MemoryDisk,
     files: Result<Vec<MDBShardFile>, StoreError>,
 ) -> Result<(), StoreError> {
-    match ShardFileManager::new_in_session_directory(alloc, disk, FOLDER, settings(), 0, false) {
+    let folder = String::from_str(alloc, FOLDER)?;
+    match ShardFileManager::new_in_session_directory(alloc, disk, folder, settings(), 0, false) {
         Ok(manager) => run(rt, alloc, phase, manager, files),
         Err(refused) => Err(refused.error),
     }

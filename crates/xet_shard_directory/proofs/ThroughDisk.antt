@@ -1,5 +1,6 @@
 -- What is read through a reader over a file of a disk.
 use Rattle.std.proofs.Common.{ℕ, Bool, true, false, List, Result, Ok, Err, sym, subst}
+use Rattle.std.specs.Prelude.{IfOk}
 use Rattle.xet_codec.specs.Parsing.{GivesUnlessFault, IsUnlessFault}
 use Rattle.xet_hash.specs.declared.error.Place.{Place}
 use Rattle.xet_hash.specs.declared.error.Place.TheVariants as place
@@ -33,6 +34,11 @@ gives_of_equal (Ok x) read h = sym h
 gives_of_equal (Err (error.Io p)) read h = h
 gives_of_equal (Err error.OutOfMemory) read h = tt
 gives_of_equal (Err e) read h = sym h
+
+-- what holds of a result of the reader
+pub ok_of_disk : {X : Type 0} (P : X → Type 0) (short : Bool) (answer : Result X StoreError) → IfOk answer P → IfOk (of_disk short answer) P
+ok_of_disk P short (Ok x) h = h
+ok_of_disk P short (Err e) h = tt
 
 -- a query, from its answer at an index
 answers_from : {X A : Type 0} (passes : X → Bool) (items : List X) (result : Result A StoreError) (answer : ℕ → Result A StoreError)

@@ -1,9 +1,10 @@
 //! The parts of a shard file, and queries to it, read from the file where it lies.
 
-ghost use Rattle.std.specs.Prelude.{◌≡◌, true, None, Ok, IfErr, Some};
+ghost use Rattle.std.specs.Prelude.{◌≡◌, true, None, Ok, IfErr, IfOk, IfSome, Some};
 ghost use Rattle.xet_io.specs.Disk.{File, file_at};
 ghost use Rattle.xet_io.specs.Frame.{Unchanged};
 ghost use Rattle.xet_shard.specs.Queries.{run_in};
+ghost use Rattle.xet_shard.specs.RunForms.{IsRunFor};
 ghost use Rattle.xet_shard.specs.Sections.{block_heads_in, chunk_lookup_in, files_in, xorb_lookup_in};
 ghost use Rattle.xet_shard_directory.specs.Asked.{AnswersFile, AnswersRun, AnswersRunAt};
 ghost use Rattle.xet_shard_directory.specs.Answers.{GivesUnlessDisk, IsFileQueryError, IsQueryError, IsReadError, in_file};
@@ -132,6 +133,7 @@ impl MDBShardFile {
     ) -> Result<Option<(usize, FileDataSequenceEntry)>, StoreError>
         ensures present { D.tells disk.old ≡ true → (f : File) → file_at (D.files disk.old) self.now.path ≡ Some f → AnswersRun self.now.shard query.now f.bytes result }
         ensures absent { D.tells disk.old ≡ true → file_at (D.files disk.old) self.now.path ≡ None → GivesUnlessDisk (λ found. found) result (Ok None) }
+        ensures shape { IfOk result (λ run. IfSome run (IsRunFor query.now)) }
         ensures frame { Unchanged D.files D.tells D.faults disk.old disk.new }
         ensures reason { IfErr result (IsQueryError (D.faults disk.old) (D.faults disk.new)) }
     {
@@ -157,6 +159,7 @@ impl MDBShardFile {
     ) -> Result<Option<(usize, FileDataSequenceEntry)>, StoreError>
         ensures present { D.tells disk.old ≡ true → (f : File) → file_at (D.files disk.old) self.now.path ≡ Some f → AnswersRunAt self.now.shard query.now row place f.bytes result }
         ensures absent { D.tells disk.old ≡ true → file_at (D.files disk.old) self.now.path ≡ None → GivesUnlessDisk (λ found. found) result (Ok None) }
+        ensures shape { IfOk result (λ run. IfSome run (IsRunFor query.now)) }
         ensures frame { Unchanged D.files D.tells D.faults disk.old disk.new }
         ensures reason { IfErr result (IsQueryError (D.faults disk.old) (D.faults disk.new)) }
     {
@@ -182,6 +185,7 @@ impl MDBShardFile {
     ) -> Result<Option<(usize, FileDataSequenceEntry)>, StoreError>
         ensures present { D.tells disk.old ≡ true → (f : File) → file_at (D.files disk.old) self.now.path ≡ Some f → GivesUnlessDisk (λ run. run) result (run_in self.now.shard.metadata query.now row place f.bytes) }
         ensures absent { D.tells disk.old ≡ true → file_at (D.files disk.old) self.now.path ≡ None → GivesUnlessDisk (λ found. found) result (Ok None) }
+        ensures shape { IfOk result (λ run. IfSome run (IsRunFor query.now)) }
         ensures frame { Unchanged D.files D.tells D.faults disk.old disk.new }
         ensures reason { IfErr result (IsQueryError (D.faults disk.old) (D.faults disk.new)) }
     {

@@ -7,7 +7,7 @@ ghost use Rattle.xet_hash.specs.Merkle.{chunk_hash};
 ghost use Rattle.xet_io.specs.Frame.{Stays};
 ghost use Rattle.xet_shard.specs.Sections.{info_at};
 ghost use Rattle.xet_shard_directory.specs.Answers.{GivesUnlessDisk};
-ghost use Rattle.xet_shard_directory.specs.Writing.{MayAddShard};
+ghost use Rattle.xet_shard_directory.specs.Writing.{MayAddShard, path_of};
 ghost use Rattle.xet_shard_flush.specs.Importing.{Imports, IsImportError, KeepsFiles, import_check};
 ghost use Rattle.xet_shard_flush.specs.internal.Steps.{IsNewError, SameShards, new_check, new_lookup};
 ghost use Rattle.xet_shard_format.specs.Lookups.{flat_places};
@@ -25,13 +25,37 @@ use xet_shard_registry::ShardRegistry;
 
 /// Writes the bytes of a shard into a folder, durably, under the name of their digest, and registers the shard file
 /// after the others; if its hash is registered, it is only written. If a file of that name has these bytes, it is only
-/// made durable, and keeps its modification time. Returns the path. Its chunks enter the index if it
-/// has fewer than `cap` words. Nothing is written if the header or the footer is malformed, if 2^32 - 1 shards are
-/// registered and one more is due (`TooLarge(Shards)`), or if the chunk lookup table is malformed; the error is that of
-/// the first check that fails. `OutOfMemory` also if the path is that of a registered shard whose file has other
-/// bytes, or is gone and had another header or footer: it is not replaced. All memory is taken before the first write;
-/// that is by the code. After an error the same shards are registered; the file is as it was, or the write has completed.
+/// made durable, and keeps its modification time. Its chunks enter the index if it has fewer than `cap` words. Nothing is
+/// written if the header or the footer is malformed, if 2^32 - 1 shards are registered and one more is due
+/// (`TooLarge(Shards)`), or if the chunk lookup table is malformed; the error is that of the first check that fails.
+/// `OutOfMemory` also if the path is that of a registered shard whose file has other bytes, or is gone and had another
+/// header or footer: it is not replaced. All memory is taken before the first write; that is by the code. After an error
+/// the same shards are registered; the file is as it was, or the write has completed.
 pub fn import_shard<D: Disk>(
+    alloc: Global,
+    disk: &mut D,
+    folder: &str,
+    registry: &mut ShardRegistry,
+    bytes: &[u8],
+    cap: u64,
+) -> Result<(), StoreError>
+    ensures imported { OnOk result (Imports (D.tells disk.old) cap (D.files disk.old) (D.files disk.new) folder.now bytes.now registry.old registry.new (path_of folder.now bytes.now)) }
+    ensures checked { GivesUnlessDisk (λ _. tt) result (import_check bytes.now registry.old) }
+    ensures kept { OnErr result ((shards : List Registered) → IsRegistryOf shards registry.old → IsRegistryOf shards registry.new) }
+    ensures refused { D.tells disk.old ≡ true → OnErr result (MayAddShard (D.files disk.old) (D.files disk.new) folder.now bytes.now) }
+    ensures unwritten { D.tells disk.old ≡ true → (e : StoreError) → import_check bytes.now registry.old ≡ Err e → D.files disk.new ≡ D.files disk.old }
+    ensures safe { D.tells disk.old ≡ true → KeepsFiles (D.files disk.old) (D.files disk.new) folder.now bytes.now registry.old.files }
+    ensures frame { Stays D.tells D.faults disk.old disk.new }
+    ensures reason { IfErr result (IsImportError (D.faults disk.old) (D.faults disk.new)) }
+{
+    match import_path(alloc, disk, folder, registry, bytes, cap) {
+        Ok(_path) => Ok(()),
+        Err(error) => Err(error),
+    }
+}
+
+/// The same. Returns the path.
+fn import_path<D: Disk>(
     alloc: Global,
     disk: &mut D,
     folder: &str,

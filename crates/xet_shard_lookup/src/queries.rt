@@ -1,10 +1,11 @@
 //! The run of a query in what is pending and in the registered shards.
 
-ghost use Rattle.std.specs.Prelude.{◌≡◌, ◌∷◌, [], ℕ, List, Ok, None, Some, false, true, IfErr, IfOk, map, slice_get};
+ghost use Rattle.std.specs.Prelude.{◌≡◌, ◌∷◌, [], ℕ, List, Ok, None, Some, false, true, IfErr, IfOk, IfSome, map, slice_get};
 ghost use Rattle.xet_io.specs.Frame.{Unchanged};
 ghost use Rattle.xet_shard_lookup.specs.Found.{HoldsFile, HoldsFiles, IsThere, Run, first_some, found, keyed_run, run_at_place, run_in_file};
 ghost use Rattle.xet_shard.specs.Held.{Held};
 ghost use Rattle.xet_shard.specs.Queries.{kept_hash};
+ghost use Rattle.xet_shard.specs.RunForms.{IsRunFor};
 ghost use Rattle.xet_shard.specs.Runs.{held_run};
 ghost use Rattle.xet_shard_format.specs.Records.{first_word};
 ghost use Rattle.xet_shard_directory.specs.Answers.{GivesUnlessDisk, IsQueryError};
@@ -40,6 +41,7 @@ pub fn find_run<D: Disk>(
     ensures pending { (run : Run) → held_run pending.now.blocks query.now ≡ Some run → (result ≡ Ok (Some run)) × (disk.new ≡ disk.old) }
     // Also over files that are not those of the registered shards: the rows of a file have the whole hashes of the run.
     ensures there { D.tells disk.old ≡ true → IfOk result (IsThere (D.files disk.old) pending.now registry.now.files query.now) }
+    ensures shape { IfOk result (λ run. IfSome run (IsRunFor query.now)) }
     ensures frame { Unchanged D.files D.tells D.faults disk.old disk.new }
     ensures reason { IfErr result (IsQueryError (D.faults disk.old) (D.faults disk.new)) }
 {
@@ -63,6 +65,7 @@ fn find_registered<D: Disk>(
     ensures found { D.tells disk.old ≡ true → (shards : List Registered) → IsRegistryOf shards registry.now → HoldsFiles (D.files disk.old) shards
         → GivesUnlessDisk (λ run. run) result (Ok (first_some (map (keyed_run (D.files disk.old) shards first query.now) (keys_of shards)))) }
     ensures there { D.tells disk.old ≡ true → (pending : Held) → IfOk result (IsThere (D.files disk.old) pending registry.now.files query.now) }
+    ensures shape { IfOk result (λ run. IfSome run (IsRunFor query.now)) }
     ensures frame { Unchanged D.files D.tells D.faults disk.old disk.new }
     ensures reason { IfErr result (IsQueryError (D.faults disk.old) (D.faults disk.new)) }
 {
@@ -95,6 +98,7 @@ fn find_at<D: Disk>(
     ensures found { D.tells disk.old ≡ true → (shards : List Registered) (key : List ℕ) → IsRegistryOf shards registry.now → HoldsFiles (D.files disk.old) shards
         → slice_get (keys_of shards) index ≡ Some key → GivesUnlessDisk (λ run. run) result (Ok (keyed_run (D.files disk.old) shards first query.now key)) }
     ensures there { D.tells disk.old ≡ true → (pending : Held) → IfOk result (IsThere (D.files disk.old) pending registry.now.files query.now) }
+    ensures shape { IfOk result (λ run. IfSome run (IsRunFor query.now)) }
     ensures frame { Unchanged D.files D.tells D.faults disk.old disk.new }
     ensures reason { IfErr result (IsQueryError (D.faults disk.old) (D.faults disk.new)) }
 {
@@ -124,6 +128,7 @@ fn run_at<D: Disk>(
     ensures found { D.tells disk.old ≡ true → (shards : List Registered) (key : List ℕ) (word : ℕ) → IsRegistryOf shards registry.now → HoldsFiles (D.files disk.old) shards → place_among key word shards ≡ Some place
         → GivesUnlessDisk (λ run. run) result (Ok (run_at_place (D.files disk.old) shards query.now place)) }
     ensures there { D.tells disk.old ≡ true → (pending : Held) → IfOk result (IsThere (D.files disk.old) pending registry.now.files query.now) }
+    ensures shape { IfOk result (λ run. IfSome run (IsRunFor query.now)) }
     ensures frame { Unchanged D.files D.tells D.faults disk.old disk.new }
     ensures reason { IfErr result (IsQueryError (D.faults disk.old) (D.faults disk.new)) }
 {
@@ -147,6 +152,7 @@ fn run_in<D: Disk>(
     ensures found { D.tells disk.old ≡ true → (s : Registered) (word item : ℕ) → s.file ≡ file.now → HoldsFile (D.files disk.old) s → slice_get s.items item ≡ Some (word, place.row, place.chunk)
         → GivesUnlessDisk (λ run. run) result (Ok (run_in_file (D.files disk.old) query.now place s)) }
     ensures there { D.tells disk.old ≡ true → (pending : Held) (files : List MDBShardFile) (number : ℕ) → slice_get files number ≡ Some file.now → IfOk result (IsThere (D.files disk.old) pending files query.now) }
+    ensures shape { IfOk result (λ run. IfSome run (IsRunFor query.now)) }
     ensures frame { Unchanged D.files D.tells D.faults disk.old disk.new }
     ensures reason { IfErr result (IsQueryError (D.faults disk.old) (D.faults disk.new)) }
 {

@@ -10,6 +10,7 @@ pub mod Listing
 pub mod Loading
 pub mod Merged
 pub mod Offering
+pub mod Paths
 pub mod Placing
 pub mod Preserved
 pub mod Removed

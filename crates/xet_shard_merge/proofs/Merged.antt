@@ -1,16 +1,15 @@
 -- The result of a merge.
-use Rattle.std.proofs.Common.{◌≡◌, ◌∙◌, ◌||◌, ◌+◌, ◌<◌, ◌≤◌, ℕ, Bool, true, false, drop, get_or, length, List, [], ◌++◌, None, Option, inr, refl, sym, ap, subst}
+use Rattle.std.proofs.Common.{◌≡◌, ◌∙◌, ℕ, nat_eq, Bool, true, not, filter, List, [], ◌++◌, None, Option, Result, Ok, Err, inr, refl, sym, ap, subst}
 use Rattle.std.proofs.lemmas.List.Elements.{All-from_recursion}
-use Rattle.std.proofs.lemmas.List.{drop_all}
+use Rattle.std.specs.Cmp.Lexicographic.{pointwise}
 use Rattle.std.specs.List.{flat_map, list_any}
-use Rattle.std.specs.Prelude.{IsOk}
+use Rattle.std.specs.Prelude.{IfErr, IfOk, IsOk, IsOkUnless}
 use Rattle.xet_hash.specs.declared.error.Place.TheVariants as place
 use Rattle.xet_hash.specs.declared.error.StoreError.{StoreError}
 use Rattle.xet_hash.specs.declared.error.StoreError.TheVariants as error
 use Rattle.xet_io.specs.Disk.{Files}
 use Rattle.xet_shard_directory.specs.Directories.{IsUnloaded}
 use Rattle.xet_shard_directory.specs.declared.shard_file.MDBShardFile.{MDBShardFile}
-use Rattle.xet_shard_format.specs.theorems.Steps.{left}
 use Rattle.xet_shard_merge.specs.Groups.{Group, Groups, Offered}
 use Rattle.xet_shard_merge.specs.Merging.{AddsResults, AreResults, IsUnmerged, KeptOrMerged, Merges, Offers, obsolete_of, target_of}
 use Rattle.xet_shard_merge.specs.declared.merge.ShardMergeResult.{ShardMergeResult}
@@ -94,14 +93,22 @@ unloaded files source skip now error.UnexpectedEof h = absurd (cc h.0)
 unloaded files source skip now (error.MalformedData reason) h = absurd (cc h.0)
 unloaded files source skip now e h = tt
 
--- ---- whether one of a list passes a test
+-- ---- the result, if there was memory for it
 
-module _ {X : Type 0} (p : X → Bool) (xs : List X) (i : ℕ) (so_far : list_any p (drop i xs) ≡ list_any p xs) where
-  pub any_next : (x : X) → i < length xs → x ≡ get_or xs i x → false ≡ p x → list_any p (drop (i + 1) xs) ≡ list_any p xs
-  any_next x less is fails = ap (λ (b : Bool). b || list_any p (drop (i + 1) xs)) fails ∙ sym (ap (list_any p) (left xs i x less is)) ∙ so_far
+module _ (start now : Files) (folder : List ℕ) (limit : ℕ) (skip : Bool) (all : List Offered) (p : Progress) (r : Result ShardMergeResult StoreError) where
+  pub merged_if : Ended start now folder limit skip all p → IfOk r (λ x. x.merged_shards.items ≡ p.merged.items)
+      → IfOk r (λ x. x.obsolete_shards.items ≡ filter (λ s. not (list_any (λ m. pointwise nat_eq m.path s.path) p.merged.items)) p.taken.items)
+      → IfOk r (λ x. x.skipped_shards.items ≡ p.skipped.items) → IfOk r (MergedAll start now folder limit skip all)
+  merged_if ended merged obsolete skipped = by r merged obsolete skipped
+    where
+      by : (r : Result ShardMergeResult StoreError) → IfOk r (λ x. x.merged_shards.items ≡ p.merged.items)
+          → IfOk r (λ x. x.obsolete_shards.items ≡ filter (λ s. not (list_any (λ m. pointwise nat_eq m.path s.path) p.merged.items)) p.taken.items)
+          → IfOk r (λ x. x.skipped_shards.items ≡ p.skipped.items) → IfOk r (MergedAll start now folder limit skip all)
+      by (Ok x) merged obsolete skipped =
+          all_merged start now folder limit skip all p x ended merged
+          (λ groups taken. obsolete ∙ ap (filter (λ (s : MDBShardFile). not (list_any (λ (m : MDBShardFile). pointwise nat_eq m.path s.path) p.merged.items))) taken) skipped
+      by (Err e) merged obsolete skipped = tt
 
-  pub any_here : (x : X) → i < length xs → x ≡ get_or xs i x → true ≡ p x → true ≡ list_any p xs
-  any_here x less is passes = ap (λ (b : Bool). b || list_any p (drop (i + 1) xs)) passes ∙ sym (ap (list_any p) (left xs i x less is)) ∙ so_far
-
-  pub any_none : length xs ≤ i → false ≡ list_any p xs
-  any_none le = sym (ap (list_any p) (drop_all i xs le)) ∙ so_far
+pub short_of_memory : {X : Type 0} (skip : Bool) (all : List Offered) (r : Result X StoreError) → IsOkUnless r error.OutOfMemory → IfErr r (IsUnmergedOf skip all)
+short_of_memory skip all (Ok x) h = tt
+short_of_memory skip all (Err e) h = subst (IsUnmergedOf skip all) (sym h) tt

@@ -1,6 +1,6 @@
 //! Merging of the shard files of a directory.
 
-ghost use Rattle.std.specs.Prelude.{◌≡◌, [], ◌≤◌, ◌^◌, All, filter, not, nat_eq, IfErr, IfOk, map, true};
+ghost use Rattle.std.specs.Prelude.{◌≡◌, [], ◌≤◌, ◌^◌, All, ℕ, List, filter, not, nat_eq, IfErr, IfOk, IsOkUnless, map, true};
 ghost use Rattle.std.specs.Cmp.Lexicographic.{pointwise};
 ghost use Rattle.std.specs.List.{list_any};
 ghost use Rattle.xet_io.specs.Frame.{Stays};
@@ -13,6 +13,7 @@ ghost use Rattle.xet_shard_merge.specs.internal.Progressing.{IsUnmergedOf, Write
 use crate::order::in_merge_order;
 use crate::progress::Progress;
 use crate::taking::take_all;
+use indexmap::IndexSet;
 use std::alloc::Global;
 use xet_hash::StoreError;
 use xet_io::Disk;
@@ -123,16 +124,17 @@ fn merge_read<D: Disk>(
         shards,
         &mut progress,
     ) {
-        Ok(()) => Ok(result_of(progress)),
+        Ok(()) => result_of(alloc, progress),
         Err(error) => Err(error),
     }
 }
 
-/// The result, when all groups are closed.
-fn result_of(progress: Progress) -> ShardMergeResult
-    ensures merged { result.merged_shards.items ≡ progress.merged.items }
-    ensures obsolete { result.obsolete_shards.items ≡ filter (λ s. not (list_any (λ r. pointwise nat_eq r.path s.path) progress.merged.items)) progress.taken.items }
-    ensures skipped { result.skipped_shards.items ≡ progress.skipped.items }
+/// The result, when all groups are closed. The only error is `StoreError::OutOfMemory`.
+fn result_of(alloc: Global, progress: Progress) -> Result<ShardMergeResult, StoreError>
+    ensures merged { IfOk result (λ r. r.merged_shards.items ≡ progress.merged.items) }
+    ensures obsolete { IfOk result (λ r. r.obsolete_shards.items ≡ filter (λ s. not (list_any (λ r. pointwise nat_eq r.path s.path) progress.merged.items)) progress.taken.items) }
+    ensures skipped { IfOk result (λ r. r.skipped_shards.items ≡ progress.skipped.items) }
+    ensures memory { IsOkUnless result StoreError.OutOfMemory }
 {
     let Progress {
         taken,
@@ -140,30 +142,42 @@ fn result_of(progress: Progress) -> ShardMergeResult
         skipped,
         ..
     } = progress;
-    let obsolete = without_results(taken, &merged);
-    ShardMergeResult {
-        merged_shards: merged,
-        obsolete_shards: obsolete,
-        skipped_shards: skipped,
+    match without_results(alloc, taken, &merged) {
+        Ok(obsolete) => Ok(ShardMergeResult {
+            merged_shards: merged,
+            obsolete_shards: obsolete,
+            skipped_shards: skipped,
+        }),
+        Err(error) => Err(error),
     }
 }
 
-/// The shards whose file is no result's.
-fn without_results(mut shards: Vec<MDBShardFile>, results: &[MDBShardFile]) -> Vec<MDBShardFile>
-    ensures { result.items ≡ filter (λ s. not (list_any (λ r. pointwise nat_eq r.path s.path) results.now)) shards.items }
+/// The shards whose file is no result's. Each is looked up among the paths of the results.
+fn without_results(
+    alloc: Global,
+    mut shards: Vec<MDBShardFile>,
+    results: &[MDBShardFile],
+) -> Result<Vec<MDBShardFile>, StoreError>
+    ensures left { IfOk result (λ left. left.items ≡ filter (λ s. not (list_any (λ r. pointwise nat_eq r.path s.path) results.now)) shards.items) }
+    ensures memory { IsOkUnless result StoreError.OutOfMemory }
 {
-    shards.retain(|shard| !is_result(shard, results));
-    shards
-}
-
-/// Whether a shard's file is that of a result.
-fn is_result(shard: &MDBShardFile, results: &[MDBShardFile]) -> bool
-    ensures { result ≡ list_any (λ r. pointwise nat_eq r.path shard.now.path) results.now }
-{
-    for merged in results {
-        if merged.path.as_str() == shard.path.as_str() {
-            return true;
+    match paths_of(alloc, results) {
+        Ok(paths) => {
+            shards.retain(|shard| !paths.contains(shard.path.as_str()));
+            Ok(shards)
         }
+        Err(error) => Err(error),
     }
-    false
+}
+
+/// The paths of these shards.
+fn paths_of(alloc: Global, shards: &[MDBShardFile]) -> Result<IndexSet<&str>, StoreError>
+    ensures paths { IfOk result (λ paths. (path : List ℕ) → list_any (λ k. pointwise nat_eq path k.now) paths.keys ≡ list_any (λ r. pointwise nat_eq r.path path) shards.now) }
+    ensures memory { IsOkUnless result StoreError.OutOfMemory }
+{
+    let mut paths = IndexSet::new(alloc);
+    for shard in shards {
+        paths.insert(shard.path.as_str())?;
+    }
+    Ok(paths)
 }

@@ -86,6 +86,10 @@ adds_if_ok (Ok x) s copy t new same other files hashes =
     adds_new s t new other (files ∙ ap (λ (c : MDBShardFile). t.files ++ c ∷ []) same) (hashes ∙ ap (λ (c : MDBShardFile). t.hashes ++ c.shard_hash ∷ []) same)
 adds_if_ok (Err e) s copy t new same other files hashes = tt
 
+pub files_if_ok : (r : Result (Unit {0}) StoreError) (s copy : MDBShardFile) (t new : Tables) → copy ≡ s → OnOk r (new.files ≡ t.files ++ copy ∷ []) → OnOk r (new.files ≡ t.files ++ s ∷ [])
+files_if_ok (Ok x) s copy t new same files = files ∙ ap (λ (c : MDBShardFile). t.files ++ c ∷ []) same
+files_if_ok (Err e) s copy t new same files = tt
+
 pub adds_none_if_err : (r : Result (Unit {0}) StoreError) (t new : Tables) → OnErr r ((new.files ≡ t.files) × (new.hashes ≡ t.hashes)) → OnErr r (AddsDue [] t new)
 adds_none_if_err (Ok x) t new same = tt
 adds_none_if_err (Err e) t new same = adds_same t new same.0 same.1

@@ -1,4 +1,5 @@
 mod Due
+mod Growing
 mod InOrder
 mod LoadedPaths
 mod Newest

@@ -1,5 +1,5 @@
 -- Registration of shard files, one after the other, each hash once.
-use Rattle.std.specs.Prelude.{◌≡◌, ◌-◌, ◌^◌, ◌++◌, ◌∷◌, [], ℕ, nat_eq, nat_le, List, length, map, Result, Ok, Err, if◌then◌else◌}
+use Rattle.std.specs.Prelude.{◌≡◌, ◌≤◌, ◌-◌, ◌^◌, ◌++◌, ◌∷◌, [], ℕ, nat_eq, nat_le, List, length, map, Result, Ok, Err, if◌then◌else◌}
 use Rattle.std.specs.Cmp.Lexicographic.{pointwise}
 use Rattle.std.specs.List.{list_any}
 use Rattle.std.specs.Ordering.{nat_cmp}
@@ -76,7 +76,28 @@ pub record AddsFirst (ss : List MDBShardFile) (old new : Tables) : Type 0 where
   pub parts : ss ≡ before ++ after
   pub due : AddsDue before old new
 
+-- shard files are registered one after the other, each with a chunk lookup table; their records are not said
+unfoldable pub with_all : ℕ → List Registered → List (MDBShardFile × List (ℕ × ℕ × ℕ)) → List Registered
+with_all cap shards [] = shards
+with_all cap shards (a ∷ rest) = with_all cap (with_shard cap shards a.0 a.1 ([], [])) rest
+
+-- The registered shards stay, in their order, and shard files come after them. Each is registered with some chunk lookup
+-- table, whose words enter the index if fewer than the cap were counted before.
+pub record Grows (cap : ℕ) (old new : Tables) : Type 0 where
+  pub added : List (MDBShardFile × List (ℕ × ℕ × ℕ))
+  pub files : new.files ≡ old.files ++ map (λ a. a.0) added
+  pub registers : (shards : List Registered) → IsRegistryOf shards old → IsRegistryOf (with_all cap shards added) new
+
+-- The tables are those of shard files that were registered so, with none before them.
+pub record IsGrown (cap : ℕ) (new : Tables) : Type 0 where
+  pub added : List (MDBShardFile × List (ℕ × ℕ × ℕ))
+  pub registers : IsRegistryOf (with_all cap [] added) new
+
 -- ---- errors
+
+-- `TooLarge(Shards)` comes only if 2^32 - 1 shards are registered
+abbrev pub IsFullIfTooLarge : Tables → StoreError → Type 0
+IsFullIfTooLarge t e = e ≡ TooLarge Shards → 2 ^ 32 - 1 ≤ length t.files
 
 -- the errors of registration, with the disk's count of failures before and after
 abbrev pub IsRegistrationError : ℕ → ℕ → StoreError → Type 0

@@ -1,11 +1,11 @@
 //! Registration of the shard files of a folder, and of those of paths.
 
-ghost use Rattle.std.specs.Prelude.{◌≡◌, ◌++◌, ◌⊎◌, List, IfErr, IfOk, OnErr, OnOk, false, true};
+ghost use Rattle.std.specs.Prelude.{◌≡◌, ◌<◌, ◌^◌, ◌++◌, ◌⊎◌, List, IfErr, IfOk, OnErr, OnOk, false, length, true};
 ghost use Rattle.xet_io.specs.Frame.{Stays, Unchanged};
 ghost use Rattle.xet_shard_directory.specs.Answers.{IsFindError};
 ghost use Rattle.xet_shard_directory.specs.declared.shard_file.MDBShardFile.{MDBShardFile};
 ghost use Rattle.xet_shard_registration.specs.Refreshing.{IsUnloadedAmong, IsUnloadedDirectory, LoadsEach, RegistersDirectory, RegistersPaths, StopsInDirectory, StopsInPaths, all_of};
-ghost use Rattle.xet_shard_registration.specs.Registering.{IsRegistrationError};
+ghost use Rattle.xet_shard_registration.specs.Registering.{Grows, IsFullIfTooLarge, IsRegistrationError};
 ghost use Rattle.xet_shard_registry.specs.Collections.{IsRegistryOf};
 ghost use Rattle.xet_shard_registry.specs.Registered.{Registered};
 
@@ -38,8 +38,11 @@ pub fn register_directory<D: Disk>(
     ensures registered { D.tells disk.old ≡ true → OnOk result (RegistersDirectory cap (D.files disk.old) (D.files disk.new) directory.now prune_expired prune_to buffer now registry.old registry.new) }
     ensures stopped { D.tells disk.old ≡ true → IfErr result (λ e. IsUnloadedDirectory (D.files disk.old) (D.files disk.new) directory.now prune_expired prune_to buffer now registry.old registry.new e ⊎ StopsInDirectory cap (D.files disk.old) (D.files disk.new) directory.now prune_expired prune_to buffer now registry.old registry.new e) }
     ensures unchanged { D.tells disk.old ≡ true → prune_expired ≡ false → prune_to ≡ 0 → D.files disk.new ≡ D.files disk.old }
-    // Also on a disk that is not observable: registered shards stay, in their order.
+    // Also on a disk that is not observable.
     ensures grows { (shards : List Registered) → IsRegistryOf shards registry.old → (more : List Registered) × IsRegistryOf (shards ++ more) registry.new }
+    ensures enters { Grows cap registry.old registry.new }
+    ensures few { length registry.old.files < 2 ^ 32 → length registry.new.files < 2 ^ 32 }
+    ensures full { IfErr result (IsFullIfTooLarge registry.new) }
     ensures frame { Stays D.tells D.faults disk.old disk.new }
     ensures reason { IfErr result (IsRegistrationError (D.faults disk.old) (D.faults disk.new)) }
 {
@@ -73,8 +76,11 @@ pub fn register_paths<D: Disk>(
 ) -> Result<(), StoreError>
     ensures registered { D.tells disk.old ≡ true → OnOk result (RegistersPaths cap (D.files disk.old) now paths.now registry.old registry.new) }
     ensures stopped { D.tells disk.old ≡ true → IfErr result (λ e. (IsUnloadedAmong (D.files disk.old) now paths.now e × (registry.new ≡ registry.old)) ⊎ StopsInPaths cap (D.files disk.old) now paths.now registry.old registry.new e) }
-    // Also on a disk that is not observable: registered shards stay, in their order.
+    // Also on a disk that is not observable.
     ensures grows { (shards : List Registered) → IsRegistryOf shards registry.old → (more : List Registered) × IsRegistryOf (shards ++ more) registry.new }
+    ensures enters { Grows cap registry.old registry.new }
+    ensures few { length registry.old.files < 2 ^ 32 → length registry.new.files < 2 ^ 32 }
+    ensures full { IfErr result (IsFullIfTooLarge registry.new) }
     ensures frame { Unchanged D.files D.tells D.faults disk.old disk.new }
     ensures reason { IfErr result (IsRegistrationError (D.faults disk.old) (D.faults disk.new)) }
 {

@@ -7,7 +7,7 @@ ghost use Rattle.xet_io.specs.Frame.{Unchanged};
 ghost use Rattle.xet_shard.specs.Union.{ShardRecords};
 ghost use Rattle.xet_shard_directory.specs.Answers.{GivesUnlessDisk, IsReadError};
 ghost use Rattle.xet_shard_directory.specs.declared.shard_file.MDBShardFile.{MDBShardFile};
-ghost use Rattle.xet_shard_registration.specs.Registering.{AddsDue, AddsFirst, IsRegistrationError, RegistersAll, Stops, due, items_in, newest_first, registered_all, registered_one};
+ghost use Rattle.xet_shard_registration.specs.Registering.{AddsDue, AddsFirst, Grows, IsFullIfTooLarge, IsGrown, IsRegistrationError, RegistersAll, Stops, due, items_in, newest_first, registered_all, registered_one};
 ghost use Rattle.xet_shard_registration.specs.internal.Steps.{RegistersOne};
 ghost use Rattle.xet_shard_registry.specs.Collections.{IsRegistryOf};
 ghost use Rattle.xet_shard_registry.specs.Registered.{Registered, with_shard};
@@ -35,10 +35,13 @@ pub fn register_shards<D: Disk>(
 ) -> Result<(), StoreError>
     ensures registered { D.tells disk.old ≡ true → OnOk result ((shards : List Registered) (records : MDBShardFile → ShardRecords) → IsRegistryOf shards registry.old → RegistersAll cap (D.files disk.old) records shards (newest_first files.now) registry.new) }
     ensures stopped { D.tells disk.old ≡ true → IfErr result (λ e. (shards : List Registered) (records : MDBShardFile → ShardRecords) → IsRegistryOf shards registry.old → Stops cap (D.files disk.old) records shards (newest_first files.now) registry.new e) }
-    // Also on a disk that is not observable: which files are registered, and that registered shards stay, in their order.
+    // Also on a disk that is not observable: which files are registered, after those that were and in which order.
     ensures due { OnOk result (AddsDue (newest_first files.now) registry.old registry.new) }
     ensures front { OnErr result (AddsFirst (newest_first files.now) registry.old registry.new) }
     ensures grows { (shards : List Registered) → IsRegistryOf shards registry.old → (more : List Registered) × IsRegistryOf (shards ++ more) registry.new }
+    ensures enters { Grows cap registry.old registry.new }
+    ensures few { length registry.old.files < 2 ^ 32 → length registry.new.files < 2 ^ 32 }
+    ensures full { IfErr result (IsFullIfTooLarge registry.new) }
     ensures frame { Unchanged D.files D.tells D.faults disk.old disk.new }
     ensures reason { IfErr result (IsRegistrationError (D.faults disk.old) (D.faults disk.new)) }
 {
@@ -57,6 +60,8 @@ pub fn replace_shards<D: Disk>(
 ) -> Result<(), StoreError>
     ensures replaced { D.tells disk.old ≡ true → OnOk result ((records : MDBShardFile → ShardRecords) → RegistersAll cap (D.files disk.old) records [] files.now registry.new) }
     ensures some { OnOk result ((shards : List Registered) × IsRegistryOf shards registry.new) }
+    ensures grown { OnOk result (IsGrown cap registry.new) }
+    ensures few { OnOk result (length registry.new.files < 2 ^ 32) }
     ensures due { OnOk result (registry.new.files ≡ due [] files.now) }
     ensures kept { OnErr result (registry.new ≡ registry.old) }
     ensures refused { D.tells disk.old ≡ true → IfErr result (λ e. (records : MDBShardFile → ShardRecords) → GivesUnlessDisk (λ (x : List Registered). x) (Err e) (registered_all cap (D.files disk.old) records [] files.now)) }
@@ -82,6 +87,8 @@ fn replace_by<D: Disk>(
     requires empty { IsRegistryOf [] fresh }
     ensures replaced { D.tells disk.old ≡ true → OnOk result ((records : MDBShardFile → ShardRecords) → RegistersAll cap (D.files disk.old) records [] (map (λ s. s.now) files.now) registry.new) }
     ensures some { OnOk result ((shards : List Registered) × IsRegistryOf shards registry.new) }
+    ensures grown { OnOk result (IsGrown cap registry.new) }
+    ensures few { OnOk result (length registry.new.files < 2 ^ 32) }
     ensures due { OnOk result (registry.new.files ≡ due [] (map (λ s. s.now) files.now)) }
     ensures kept { OnErr result (registry.new ≡ registry.old) }
     ensures refused { D.tells disk.old ≡ true → IfErr result (λ e. (records : MDBShardFile → ShardRecords) → GivesUnlessDisk (λ (x : List Registered). x) (Err e) (registered_all cap (D.files disk.old) records [] (map (λ s. s.now) files.now))) }
@@ -130,6 +137,9 @@ fn register_in_order<D: Disk>(
     ensures due { OnOk result (AddsDue (map (λ s. s.now) files.now) registry.old registry.new) }
     ensures front { OnErr result (AddsFirst (map (λ s. s.now) files.now) registry.old registry.new) }
     ensures grows { (shards : List Registered) → IsRegistryOf shards registry.old → (more : List Registered) × IsRegistryOf (shards ++ more) registry.new }
+    ensures enters { Grows cap registry.old registry.new }
+    ensures few { length registry.old.files < 2 ^ 32 → length registry.new.files < 2 ^ 32 }
+    ensures full { IfErr result (IsFullIfTooLarge registry.new) }
     ensures frame { Unchanged D.files D.tells D.faults disk.old disk.new }
     ensures reason { IfErr result (IsRegistrationError (D.faults disk.old) (D.faults disk.new)) }
 {
@@ -153,6 +163,9 @@ fn register_one<D: Disk>(
     ensures same { OnErr result (AddsDue [] registry.old registry.new) }
     ensures kept { OnErr result ((shards : List Registered) → IsRegistryOf shards registry.old → IsRegistryOf shards registry.new) }
     ensures grows { (shards : List Registered) → IsRegistryOf shards registry.old → (more : List Registered) × IsRegistryOf (shards ++ more) registry.new }
+    ensures enters { Grows cap registry.old registry.new }
+    ensures few { length registry.old.files < 2 ^ 32 → length registry.new.files < 2 ^ 32 }
+    ensures full { IfErr result (IsFullIfTooLarge registry.new) }
     ensures frame { Unchanged D.files D.tells D.faults disk.old disk.new }
     ensures reason { IfErr result (IsRegistrationError (D.faults disk.old) (D.faults disk.new)) }
 {
@@ -178,6 +191,7 @@ fn register_new<D: Disk>(
     ensures registered { OnOk result ((items : List (ℕ × ℕ × ℕ)) × (D.tells disk.old ≡ true → items_in (D.files disk.old) file.now ≡ Ok items) × ((shards : List Registered) (records : ShardRecords) → IsRegistryOf shards registry.old → IsRegistryOf (with_shard cap shards file.now items records) registry.new)) }
     ensures refused { D.tells disk.old ≡ true → IfErr result (λ e. GivesUnlessDisk (λ (x : List (ℕ × ℕ × ℕ)). x) (Err e) (items_in (D.files disk.old) file.now)) }
     ensures due { OnOk result (AddsDue (file.now ∷ []) registry.old registry.new) }
+    ensures files { OnOk result (registry.new.files ≡ registry.old.files ++ file.now ∷ []) }
     ensures same { OnErr result (AddsDue [] registry.old registry.new) }
     ensures kept { OnErr result ((shards : List Registered) → IsRegistryOf shards registry.old → IsRegistryOf shards registry.new) }
     ensures frame { Unchanged D.files D.tells D.faults disk.old disk.new }

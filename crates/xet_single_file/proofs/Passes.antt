@@ -65,6 +65,7 @@ stopped_few h start p b bytes few =
         few = few_stopped b _ _ _ f.few;
         still = λ _. refl;
       };
+      nexts = few.nexts;
       few = few.few;
     }
 

@@ -2,12 +2,15 @@
 use Rattle.std.proofs.Common.{◌≡◌, ◌∙◌, inl, inr, ℕ, ◌+◌, ◌≤◌, Bool, true, false, true≢false, if◌then◌else◌, List, ◌++◌, append_assoc, length, slice_range, take, drop, take-append-drop, refl, sym, ap, subst, arith, length-append, ◌-◌}
 use Rattle.std.proofs.Math.Seq.{take-append-add}
 use Rattle.std.proofs.lemmas.List.{length-map, length-take-le, take_all}
+use Rattle.std.specs.List.{AllByRecursion}
 use Rattle.xet_clean.specs.Cleaner.{IsCleaning}
 use Rattle.xet_clean.specs.Errors.{IsCleanerError}
 use Rattle.xet_clean.specs.Planning.{IsFew}
+use Rattle.xet_clean.specs.theorems.Adding.{asking_calls}
 use Rattle.xet_cut.specs.Chunking.{chunking}
 use Rattle.xet_cut.specs.Limits.{AreInRange}
 use Rattle.xet_cut.specs.Streams.{Splitting}
+use Rattle.xet_dedup_queries.specs.Counting.{HasNext}
 use Rattle.xet_file_plan.specs.Moves.{PlanState}
 use Rattle.xet_hash.specs.Merkle.{leaf_of}
 use Rattle.xet_hash.specs.declared.error.Place.TheVariants.{Disk}
@@ -55,6 +58,7 @@ none_failed false true same = absurd (true≢false same)
 pub few_before : (start now : Holder) (whole : Bool) (plan : PlanState) (global : ℕ × ℕ) (splitting : Splitting) (count : ℕ) (bytes : List ℕ) → IsCleaning start now whole plan global splitting count bytes → (rest : List ℕ) → IsFew start now (bytes ++ rest)
 few_before start now whole plan global splitting count bytes c rest = record {
   follows = c.follows;
+  nexts = subst (AllByRecursion HasNext) (sym (asking_calls start now c.follows)) c.nexts;
   few = omega (
     arith,
     c.follows.few,
@@ -78,6 +82,7 @@ few_of_whole start mid now before done piece back whole range f is few =
     ap (λ (x : List ℕ). before ++ x) is ∙ sym (append_assoc before (done ++ piece) back) ∙ ap (λ (x : List ℕ). x ++ back) (sym (append_assoc before done piece)) in
     subst (IsFew start now) (sym all) (record {
       follows = few.follows;
+      nexts = few.nexts;
       few = omega (arith, few.few, leaves_more now.limits here.minimum_from here.minimum_to ((before ++ done) ++ piece) back);
     })
 

@@ -6,6 +6,7 @@ use Rattle.xet_aggregate.specs.declared.metrics.DeduplicationMetrics.{Deduplicat
 use Rattle.xet_choices.specs.declared.choice.Choice.{Choice}
 use Rattle.xet_clean.specs.Sources.{HasCleaned, IsCutShort, IsLoopError}
 use Rattle.xet_clean.specs.declared.policy.Sha256Policy.TheVariants.{Compute}
+use Rattle.xet_clean.specs.theorems.Nexts.{closes_none}
 use Rattle.xet_clean.specs.theorems.Turns.{taken_each, untouched}
 use Rattle.xet_hash.specs.declared.error.StoreError.{StoreError}
 use Rattle.xet_hash.specs.declared.error.StoreError.TheVariants.{OutOfMemory}
@@ -30,7 +31,7 @@ MayHavePassed store begun pass P = (stopped : Bool) × HasPassed store begun.num
 abbrev pub IsRefused : {S : Type 0} → (S → Bool) → (S → List ℕ) → (S → ℕ) → List S → List S → Holder → Holder → StoreError → Bool → Type 0
 IsRefused tells left faults ss ts begun pass e stopped =
     IsLoopError tells left faults ss ts (passing_of begun begun false) (passing_of begun pass stopped) e
-    × IsCutShort Compute tells left ss ts (passing_of begun begun false) (passing_of begun pass stopped) e
+    × IsCutShort [] Compute tells left ss ts (passing_of begun begun false) (passing_of begun pass stopped) e
 
 pub err_and : {T E : Type 0} (r : Result T E) (P Q : E → Type 0) → IfErr r P → IfErr r Q → IfErr r (λ e. P e × Q e)
 err_and (Ok x) P Q p q = tt
@@ -48,7 +49,7 @@ has_begun store given begun pass start now going is of none passing =
 
 -- nothing was taken of the sources
 module _ {S : Type 0} (tells : S → Bool) (left : S → List ℕ) where
-  unread : (ss : List S) (h : Holder) → IsCutShort Compute tells left ss ss h h OutOfMemory
+  unread : (ss : List S) (h : Holder) → IsCutShort [] Compute tells left ss ss h h OutOfMemory
   unfolding follows_nothing
   unread ss h = record {
     files = map (λ (s : S). []) ss;
@@ -62,6 +63,7 @@ module _ {S : Type 0} (tells : S → Bool) (left : S → List ℕ) where
     count = 0;
     recorded = omega arith;
     records = refl;
+    registers = closes_none [] tt;
   }
 
 -- memory was out before that
@@ -74,8 +76,8 @@ module _ {S : Type 0} (tells : S → Bool) (left : S → List ℕ) (faults : S �
     has_begun store given begun pass start now going is of none passing,
     (
       subst (IsLoopError tells left faults ss ss (passing_of begun begun false) (passing_of begun pass false)) (sym out) tt,
-      subst (IsCutShort Compute tells left ss ss (passing_of begun begun false) (passing_of begun pass false)) (sym out)
-          (subst (λ (h : Holder). IsCutShort Compute tells left ss ss (passing_of begun begun false) (passing_of begun h false) OutOfMemory) (sym (is ∙ now)) (unread tells left ss (passing_of begun begun false))),
+      subst (IsCutShort [] Compute tells left ss ss (passing_of begun begun false) (passing_of begun pass false)) (sym out)
+          (subst (λ (h : Holder). IsCutShort [] Compute tells left ss ss (passing_of begun begun false) (passing_of begun h false) OutOfMemory) (sym (is ∙ now)) (unread tells left ss (passing_of begun begun false))),
     ),
   )
 
@@ -116,6 +118,6 @@ module _ (store : RecordedState) (given asked after now : PassingState) (pass : 
         )
 
     -- they were not
-    pub refused_by : (e : StoreError) → IsLoopError tells left faults ss ts (holder_in asked) (holder_in after) e × IsCutShort Compute tells left ss ts (holder_in asked) (holder_in after) e
+    pub refused_by : (e : StoreError) → IsLoopError tells left faults ss ts (holder_in asked) (holder_in after) e × IsCutShort [] Compute tells left ss ts (holder_in asked) (holder_in after) e
         → MayHavePassed store given.pass pass (IsRefused tells left faults ss ts given.pass pass e)
-    refused_by e why = (now.stopped, has_passed, (moved (λ x y. IsLoopError tells left faults ss ts x y e) why.0, moved (λ x y. IsCutShort Compute tells left ss ts x y e) why.1))
+    refused_by e why = (now.stopped, has_passed, (moved (λ x y. IsLoopError tells left faults ss ts x y e) why.0, moved (λ x y. IsCutShort [] Compute tells left ss ts x y e) why.1))

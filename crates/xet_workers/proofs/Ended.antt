@@ -6,7 +6,7 @@ use Rattle.std.proofs.lemmas.List.{drop_at, length-map}
 use Rattle.std.proofs.lemmas.List.Sorted.{IsPermutation-append_left, IsPermutation-sym, IsPermutation-trans}
 use Rattle.std.proofs.lemmas.Simd.{map-map}
 use Rattle.xet_aggregate.specs.declared.metrics.DeduplicationMetrics.{DeduplicationMetrics}
-use Rattle.xet_base.specs.theorems.Elements.{all_more}
+use Rattle.xet_base.specs.theorems.Elements.{all_both, all_more}
 use Rattle.xet_choices.specs.Calls.{registered_chunks}
 use Rattle.xet_choices.specs.Choices.{new_chunks, no_place_entries}
 use Rattle.xet_choices.specs.declared.choice.Choice.{Choice}
@@ -47,12 +47,13 @@ use Rattle.xet_workers.specs.Workers.{Worked}
 use Rattle.xet_workers.specs.internal.Ending.{HasMerged}
 use Rattle.xet_workers.specs.internal.Parts.{ArePartsBy}
 use Rattle.xet_workers.proofs.Growing.{all_steps, grows_whole}
-use Rattle.xet_workers.proofs.Joined.{all_bound, all_chosen, all_from, all_kept, all_made, all_named, all_new, all_once, files_infos, files_leaves, files_policies, flat, named, passes_differ, passes_of}
+use Rattle.xet_workers.proofs.Joined.{all_bound, all_chosen, all_from, all_kept, all_made, all_named, all_new, all_once, files_infos, files_leaves, files_policies, flat, named, parts_passed, passes_differ, passes_of}
 use Rattle.xet_workers.proofs.Landing.{lands_parted}
 use Rattle.xet_workers.proofs.Naming.{names_differ, own_numbers_each}
 use Rattle.xet_workers.proofs.Ordered.{all_permuted, all_recorded, all_records, records_order}
 use Rattle.xet_workers.proofs.Parting.{Parted, made_more, numbers_of, parted}
-use Rattle.xet_workers.proofs.Passed.{steps_of_pass}
+use Rattle.xet_workers.proofs.Passed.{alone_of_pass, steps_of_pass}
+use Rattle.xet_workers.proofs.Since.{passes_since}
 use Rattle.xet_workers.proofs.Sums.{files_parted, length_parted, registered_parted}
 
 -- what holds of what is made of each holds of each that is made
@@ -66,18 +67,18 @@ module _ (old mid new : RecordedState) (stopped : Bool) (since : IsSince old mid
   first_since : entries_since old mid ≡ since.since
   first_since = ap (drop (length old.history)) since.steps.moves.history ∙ drop_at old.history since.since (length old.history) refl
 
-  last_since : entries_since mid new ≡ alone.since
+  pub last_since : entries_since mid new ≡ alone.since
   last_since = ap (drop (length mid.history)) alone.steps.moves.history ∙ drop_at mid.history alone.since (length mid.history) refl
 
   -- those until the session was closed, and those after it
-  both_since : entries_since old new ≡ entries_since old mid ++ entries_since mid new
+  pub both_since : entries_since old new ≡ entries_since old mid ++ entries_since mid new
   both_since =
       ap (drop (length old.history)) (all_steps old mid new stopped since alone).moves.history
       ∙ drop_at old.history (since.since ++ alone.since) (length old.history) refl
       ∙ ap (λ (es : List Entry). es ++ alone.since) (sym first_since)
       ∙ ap (λ (es : List Entry). entries_since old mid ++ es) (sym last_since)
 
-  steps_all : Steps old new (entries_since old new)
+  pub steps_all : Steps old new (entries_since old new)
   steps_all =
       subst (Steps old new)
       (sym (ap (drop (length old.history)) (all_steps old mid new stopped since alone).moves.history ∙ drop_at old.history (since.since ++ alone.since) (length old.history) refl))
@@ -89,7 +90,7 @@ module _ (old mid new : RecordedState) (stopped : Bool) (since : IsSince old mid
       let whole : length mid.history ≡ length old.history + length since.since = ap (λ (es : List Entry). length es) since.steps.moves.history ∙ length-append old.history since.since in
       omega (arith, first, whole)
 
-  numbered_all : numbered (length old.history) (entries_since old new)
+  pub numbered_all : numbered (length old.history) (entries_since old new)
       ≡ numbered (length old.history) (entries_since old mid) ++ numbered (length mid.history) (entries_since mid new)
   numbered_all =
       ap (numbered (length old.history)) both_since
@@ -228,6 +229,18 @@ module _ (old new : RecordedState) (ws : List Worked) (ps : List Part) (are : Ar
       (sym (map-map (λ (i : XetFileInfo). i.hash) (info_by Compute old.store.limits) bytes) ∙ ap (map (λ (i : XetFileInfo). i.hash)) (sym infos_are))
       (rows_add hashes old.store.records new.store.records (subst (λ (c : Core). HasRows hashes old.store.records c.records) (sym steps.moves.leads) rows) sound.records_differ)
 
+  -- ---- who made the entries
+
+  passes : (workers : ℕ) → length ws ≤ workers → AllByRecursion (λ e. pass_of e ≤ workers) (entries_since old new)
+  passes workers few =
+      let first : AllByRecursion (λ e. pass_of e ≤ workers) (entries_since old m.mid) =
+      passes_since old m.mid (passes_of ws) (parts_passed old 1 ws ps are) m.closed.known m.closed.seen m.closed.own workers (omega (arith, few, length-map ws (λ (w : Worked). w.pass))) in
+      let last : AllByRecursion (λ e. pass_of e ≤ workers) (entries_since m.mid new) =
+      subst (AllByRecursion (λ e. pass_of e ≤ workers)) (sym (last_since old m.mid new m.merged.stopped m.closed.since m.merged.alone))
+      (all_more (λ e. pass_of e ≡ 0) (λ e. pass_of e ≤ workers) m.merged.alone.since (λ e is. omega (arith, is)) (alone_of_pass m.mid new m.merged.stopped m.merged.alone)) in
+      subst (AllByRecursion (λ e. pass_of e ≤ workers)) (sym (both_since old m.mid new m.merged.stopped m.closed.since m.merged.alone))
+      (all_both (λ e. pass_of e ≤ workers) (entries_since old m.mid) (entries_since m.mid new) first last)
+
   -- ---- which choices were made
 
   once : AllPairs (λ a b. a ≢ b) (no_place_entries (flat_map (λ (cs : List Choice). cs) choices))
@@ -280,4 +293,5 @@ module _ (old new : RecordedState) (ws : List Worked) (ps : List Part) (are : Ar
       sums = merges.sums ∙ ap (λ (s : LimitSettings). metrics_sum s bytes choices) m.closed.since.steps.keeps.limits;
       registers = registers;
       bound = bound;
+      passes = passes workers few;
     }

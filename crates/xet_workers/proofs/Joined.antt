@@ -61,13 +61,13 @@ module _ (old : RecordedState) (number : ℕ) (w : Worked) (p : Part) (is : IsPa
   end_own = ap (λ (h : Holder). h.own) is.end ∙ ap (λ (l : List (ℕ × Entry)). drop (length l) w.pass.own) is.passed.none
 
   -- its own entries are those of the worker's pass
-  own_is : is.working.follows.own ≡ w.pass.own
+  pub own_is : is.working.follows.own ≡ w.pass.own
   own_is = sym (ap (λ (h : Holder). h.own) is.working.follows.is ∙ ap (λ (l : List (ℕ × Entry)). l ++ is.working.follows.own) start_fresh) ∙ end_own
 
   own_part : own_of p ≡ w.pass.own
   own_part = ap (λ (l : List (ℕ × Entry)). drop (length l) p.end.own) start_fresh ∙ end_own
 
-  start_limits : p.start.limits ≡ old.store.limits
+  pub start_limits : p.start.limits ≡ old.store.limits
   start_limits = ap (λ (h : Holder). h.limits) is.start ∙ ap (λ (h : Holder). h.limits) is.passed.of.is
 
   end_limits : p.end.limits ≡ old.store.limits
@@ -96,7 +96,7 @@ module _ (old : RecordedState) (number : ℕ) (w : Worked) (p : Part) (is : IsPa
         (names_within p.start p.end is.working.follows start_fresh p.files is.working.planned)),
   )
 
-  part_leaves : AllByRecursion (λ f. f.plan.leaves ≡ leaves_in old.store.limits f.bytes) p.files
+  pub part_leaves : AllByRecursion (λ f. f.plan.leaves ≡ leaves_in old.store.limits f.bytes) p.files
   part_leaves =
       subst (λ (s : LimitSettings). AllByRecursion (λ (f : Planned). f.plan.leaves ≡ leaves_in s f.bytes) p.files) start_limits (all_leaves p.start p.end is.working.follows p.files is.working.planned)
 
@@ -118,7 +118,7 @@ module _ (old : RecordedState) (number : ℕ) (w : Worked) (p : Part) (is : IsPa
 -- ---- all parts
 
 module _ (old : RecordedState) where
-  parts_passed : (n : ℕ) (ws : List Worked) (ps : List Part) → ArePartsBy old n ws ps → HavePassed old n (passes_of ws)
+  pub parts_passed : (n : ℕ) (ws : List Worked) (ps : List Part) → ArePartsBy old n ws ps → HavePassed old n (passes_of ws)
   parts_passed n [] [] are = tt
   parts_passed n (w ∷ ws) (p ∷ ps) are = ((are.0.begun, false, are.0.passed), parts_passed (suc n) ws ps are.1)
   parts_passed n ws ps are = absurd are

@@ -11,11 +11,13 @@ mod Naming
 mod Sums
 mod Numbered
 mod Bounds
+mod Since
 mod Passed
 mod Chosen
 mod Ordered
 mod Joined
 mod Ended
+mod Kept
 mod Promised
 mod Reasons
 mod Refusing

@@ -1,20 +1,23 @@
 -- What is promised of each way in which a session of workers ends.
 use Rattle.std.proofs.Common.{◌≡◌, ◌∙◌, inl, inr, ℕ, zero, suc, ◌+◌, ◌^◌, ◌<◌, ◌≤◌, Bool, List, [], ◌∷◌, ◌++◌, length, map, append-nil, length-append, refl, sym, ap, subst, arith, Option, Some}
 use Rattle.std.specs.Prelude.{Err, IfErr, IfOk, Ok, Result}
-use Rattle.std.specs.List.{sum_by}
+use Rattle.std.specs.List.{AllByRecursion, sum_by}
 use Rattle.std.proofs.lemmas.Bool.Decides.{nat_tests}
 use Rattle.std.proofs.lemmas.List.{length-map}
 use Rattle.std.proofs.lemmas.Result.{IfErr-weaker, IfOk-weaker}
 use Rattle.std.proofs.lemmas.Simd.{map-map}
 use Rattle.xet_aggregate.specs.declared.metrics.DeduplicationMetrics.{DeduplicationMetrics}
+use Rattle.xet_base.specs.theorems.Elements.{all_more}
 use Rattle.xet_choices.specs.Calls.{Call}
 use Rattle.xet_choices.specs.declared.choice.Choice.{Choice}
+use Rattle.xet_clean.specs.Cleaning.{entries_since}
 use Rattle.xet_clean.specs.Merging.{Part}
 use Rattle.xet_clean.specs.declared.info.Cleaned.{Cleaned}
 use Rattle.xet_clean.specs.declared.working.Working.{Working}
 use Rattle.xet_cut.specs.declared.limits.LimitSettings.{LimitSettings}
 use Rattle.xet_hash.specs.declared.error.StoreError.{StoreError}
 use Rattle.xet_hash.specs.declared.error.StoreError.TheVariants.{OutOfMemory}
+use Rattle.xet_history.specs.History.{pass_of}
 use Rattle.xet_history.specs.declared.entry.Entry.{Entry}
 use Rattle.xet_locked_session.specs.Passes.{NumbersDiffer, new_passes, own_numbers}
 use Rattle.xet_locked_session.specs.Session.{IsSince}
@@ -23,6 +26,7 @@ use Rattle.xet_shard_format.specs.declared.record.MDBFileInfo.{MDBFileInfo}
 use Rattle.xet_shared_history.specs.Owned.{HasEachOnce, count_of, one_within}
 use Rattle.xet_steps.specs.Holders.{Holder}
 use Rattle.xet_steps.specs.Recorded.{IsRecorded, RecordedState}
+use Rattle.xet_steps.specs.theorems.Changing.{changes_nothing}
 use Rattle.xet_steps.specs.theorems.Joining.{steps_nothing}
 use Rattle.xet_store.specs.Cleaning.{AreTaken, Later}
 use Rattle.xet_store.specs.Separate.{Among}
@@ -32,7 +36,7 @@ use Rattle.xet_workers.specs.Cleaning.{AreChosenBy, IsBoundedBy, IsCleanedBy, ca
 use Rattle.xet_workers.specs.Workers.{HaveEnded, SeatState, Worked}
 use Rattle.xet_workers.specs.internal.Ending.{HasMerged, IsLeft, IsLeftWith, IsUnended, Promises}
 use Rattle.xet_workers.specs.internal.Parts.{ArePartsBy, all_worked}
-use Rattle.xet_workers.proofs.Bounds.{bounded_closed, bounded_merged, bounded_untouched}
+use Rattle.xet_workers.proofs.Kept.{bounded_closed, bounded_unmerged, bounded_untouched}
 use Rattle.xet_workers.proofs.Failing.{ended_failed}
 use Rattle.xet_workers.proofs.Made.{HasParts}
 use Rattle.xet_workers.proofs.Parts.{later_same, taken_same}
@@ -46,7 +50,7 @@ since_nothing : (s : RecordedState) → IsSince s s
 since_nothing s = record { since = []; steps = steps_nothing s; failures = omega arith }
 
 left_unchanged : (s : RecordedState) → IsLeft s s
-left_unchanged s = record { since = since_nothing s; made = inl (record { since = []; history = sym (append-nil s.history); steps = StepsBy.begins }) }
+left_unchanged s = record { since = since_nothing s; made = inl (record { since = []; history = sym (append-nil s.history); steps = StepsBy.begins; changes = changes_nothing [] s s [] refl }) }
 
 -- the numbers of a new session's passes
 none_own : (start : RecordedState) (number n : ℕ) → own_numbers (new_passes start number n) ≡ []
@@ -75,14 +79,14 @@ module _ {S : Type 0} (workers : ℕ) (some : 1 ≤ workers) (tells : S → Bool
   unbegun_promises old new is e out sound =
       subst (λ (x : StoreError). Promises workers tells left faults ss ss old new (Err x)) (sym out)
       (left_promises workers tells left faults ss ss old new (subst (IsLeft old) (sym is) (left_unchanged old)) sound refl (taken_same tells left faults ss) (later_same tells left faults ss)
-      (bounded_untouched workers tells left ss old new some (ap (λ (s : RecordedState). s.history) is)))
+      (bounded_untouched workers some tells left ss old new (subst (IsSince old) (sym is) (since_nothing old)) sound (ap (λ (s : RecordedState). s.history) is)))
 
   -- a session of new passes was closed
   pub closed_promises : (old new : RecordedState) (n : ℕ) (passes : List Holder) → passes ≡ new_passes old 1 n → IsLeft old new → HasEachOnce (length old.history) (length new.history) (own_numbers passes) → Sound new.store
       → Promises workers tells left faults ss ss old new (Err OutOfMemory)
   closed_promises old new n passes are is once sound =
       left_promises workers tells left faults ss ss old new is sound refl (taken_same tells left faults ss) (later_same tells left faults ss)
-      (bounded_untouched workers tells left ss old new some (same_history old new n passes are is.since once))
+      (bounded_untouched workers some tells left ss old new is.since sound (same_history old new n passes are is.since once))
 
 -- ---- fewer workers
 
@@ -97,6 +101,9 @@ module _ (few many : ℕ) (less : few ≤ many) where
     record { pass = are.0.pass; from = are.0.from; to = omega (arith, less, are.0.to); choices = are.0.choices },
     chosen_more s calls fs cs rs are.1,
   )
+
+  passes_more : (es : List Entry) → AllByRecursion (λ e. pass_of e ≤ few) es → AllByRecursion (λ e. pass_of e ≤ many) es
+  passes_more es all = all_more (λ e. pass_of e ≤ few) (λ e. pass_of e ≤ many) es (λ e le. omega (arith, less, le)) all
 
   module _ {S : Type 0} (tells : S → Bool) (left : S → List ℕ) (faults : S → ℕ) (ss ts : List S) (old new : RecordedState) where
     cleaned_more : (infos : List XetFileInfo) (choices : List (List Choice)) (metrics : DeduplicationMetrics) → IsCleanedBy few tells left ss old new infos choices metrics → IsCleanedBy many tells left ss old new infos choices metrics
@@ -113,6 +120,7 @@ module _ (few many : ℕ) (less : few ≤ many) where
       sums = is.sums;
       registers = is.registers;
       bound = is.bound;
+      passes = passes_more (entries_since old new) is.passes;
     }
 
     cleaned_result : (r : Result Cleaned StoreError) → IfOk r (λ c. IsCleanedBy few tells left ss old new c.infos.items c.choices.items c.metrics) → IfOk r (λ c. IsCleanedBy many tells left ss old new c.infos.items c.choices.items c.metrics)
@@ -126,9 +134,17 @@ module _ (few many : ℕ) (less : few ≤ many) where
       before = is.before;
       after = is.after;
       turns = is.turns;
-      files = is.files;
       taken = is.taken;
       bound = is.bound;
+      passes = passes_more (entries_since old new) is.passes;
+      recorded = is.recorded;
+      among = is.among;
+      records = is.records;
+      adds = is.adds;
+      plans = is.plans;
+      resolve = is.resolve;
+      last = is.last;
+      registers = is.registers;
     }
 
     bounded_result : (r : Result Cleaned StoreError) → IfErr r (λ e. IsBoundedBy few tells left ss ts old new) → IfErr r (λ e. IsBoundedBy many tells left ss ts old new)
@@ -156,10 +172,13 @@ module _ (few many : ℕ) (less : few ≤ many) where
 -- ---- the workers have ended, and the session was closed
 
 module _ {S : Type 0} (tells : S → Bool) (left : S → List ℕ) (faults : S → ℕ) (ss ts : List S) (old : RecordedState) (seats : List SeatState) (ended : HaveEnded tells left faults old 1 0 ss ts seats)
-    (passes : List Holder) (there : map (λ s. s.pass) seats ≡ map Some passes) (new : RecordedState) (workers : ℕ) (few : length seats ≤ workers) (sound : Sound new.store) (recorded : IsRecorded new)
+    (passes : List Holder) (there : map (λ s. s.pass) seats ≡ map Some passes) (new : RecordedState) (workers : ℕ) (some : 1 ≤ workers) (few : length seats ≤ workers) (sound : Sound new.store) (recorded : IsRecorded new)
     (tell : map tells ts ≡ map tells ss) (taken : AreTaken tells left ss ts) (later : Later faults ss ts) where
+  passes_few : length passes ≤ workers
+  passes_few = omega (arith, few, same_count (λ (s : SeatState). s.pass) Some seats passes there)
+
   closed_bound : IsLeftWith old new passes → IsBoundedBy workers tells left ss ts old new
-  closed_bound is = bounded_closed workers tells left faults 1 0 ss ts old seats passes ended there few tell new is.known is.seen is.own
+  closed_bound is = bounded_closed workers some tells left faults ss ts old seats passes ended there few passes_few tell new is.is.since sound is.known is.seen is.own
 
   same_sources : length ts ≡ length ss
   same_sources = sym (length-map ts tells) ∙ ap length tell ∙ length-map ss tells
@@ -188,7 +207,7 @@ module _ {S : Type 0} (tells : S → Bool) (left : S → List ℕ) (faults : S �
 
     unended_bound : (e : StoreError) → IsUnended old new passes has.parts workings e → IsBoundedBy workers tells left ss ts old new
     unended_bound e (inl n) =
-        bounded_merged workers tells left faults 1 0 ss ts old seats passes ended there few tell n.mid new n.refused.stopped workings n.closed.known n.closed.seen n.closed.own made n.refused.few
+        bounded_unmerged workers some tells left faults ss ts old new passes workings has.parts has.are has.done e n passes_are passes_few (seats_count tells left faults old ss ts seats ended passes there workings made) sound tell
     unended_bound e (inr out) = closed_bound out.1
 
     unmerged_outcome : (e : StoreError) → IsUnended old new passes has.parts workings e → Promises workers tells left faults ss ts old new (Err e)
@@ -247,12 +266,12 @@ module _ {X S V : Type 0} (p : X → Option Holder) (m : X → Result Working St
       (λ v e. let has = seats_parts tells left faults old ss ts seats ended passes there (items v) e in (has.parts, has.are)) all_made
 
   -- what is promised then
-  pub left_ended : (new : RecordedState) (workers : ℕ) → length xs ≤ workers → Sound new.store → IsRecorded new → map tells ts ≡ map tells ss → AreTaken tells left ss ts → Later faults ss ts
+  pub left_ended : (new : RecordedState) (workers : ℕ) → 1 ≤ workers → length xs ≤ workers → Sound new.store → IsRecorded new → map tells ts ≡ map tells ss → AreTaken tells left ss ts → Later faults ss ts
       → IfErr made (λ e. Among (map m zs) (Err e)) → (r : Result Cleaned StoreError)
       → IfOk made (λ v. (ps : List Part) → ArePartsBy old 1 (all_worked passes (items v)) ps → IfOk r (λ c. HasMerged old new passes ps c.infos.items c.choices.items c.metrics))
       → IfOk made (λ v. (ps : List Part) → ArePartsBy old 1 (all_worked passes (items v)) ps → IfErr r (IsUnended old new passes ps (items v)))
       → IfErr made (λ e. (r ≡ Err e) × IsLeftWith old new passes) → Promises workers tells left faults ss ts old new r
-  left_ended new workers few sound recorded tell taken later error r merged unmerged failed =
-      seated_promises tells left faults ss ts old seats ended passes there new workers (omega (arith, few, length-map {B = SeatState} xs (λ x. record { pass = p x; made = m x }))) sound recorded tell taken later items made all_made
+  left_ended new workers some few sound recorded tell taken later error r merged unmerged failed =
+      seated_promises tells left faults ss ts old seats ended passes there new workers some (omega (arith, few, length-map {B = SeatState} xs (λ x. record { pass = p x; made = m x }))) sound recorded tell taken later items made all_made
       (IfErr-weaker made (λ e. Among (map m zs) (Err e)) (λ e. Among (map (λ (s : SeatState). s.made) seats) (Err e)) (λ e a. subst (λ (l : List (Result Working StoreError)). Among l (Err e)) (sym made_is) a) error)
       r merged unmerged failed

@@ -40,7 +40,7 @@ use Rattle.xet_steps.specs.Stepping.{SawOther}
 use Rattle.xet_steps.specs.theorems.Following.{follows_then}
 use Rattle.xet_xorb_chunk.specs.Chunks.{chunk_leaf}
 use Rattle.xet_clean.specs.Cleaning.{AreApartUnder, NoneEnds}
-use Rattle.xet_clean.specs.Closing.{IsClosingError, IsUnclosed, RegistersChunks, filled_files}
+use Rattle.xet_clean.specs.Closing.{AnyCalls, IsClosingError, IsUnclosed, RegistersChunks, filled_files}
 use Rattle.xet_clean.specs.Files.{leaves_in}
 use Rattle.xet_clean.specs.Merging.{HasSeen}
 use Rattle.xet_clean.specs.Working.{IsRecordOf, Planned, Waits}
@@ -102,7 +102,7 @@ some_chunks s (b ∷ bs) some = omega arith
 module _ (limits : LimitSettings) (met_files : List (List (List ℕ))) (new : RecordedState) (sound : Sound new.store) (observable : new.store.tells ≡ true) (none : NoneEnds met_files) (under : AreApartUnder new met_files)
     (before now : Holder) (goes_on : Follows before now) (told : before.tells ≡ true) (more : List Entry) (later : core_of new ≡ after_all (core_at now) more)
     (files : List Planned) (each : AllByRecursion (IsMetFile limits met_files) files)
-    (a : Aggregate) (parts : IsAggregate a) (waits : AllByRecursion (λ p. Waits before a.chunks files p.0) a.files) (next : List (List ℕ × ℕ)) (u : IsUnclosed a next before now (MalformedData OtherFileHash)) where
+    (a : Aggregate) (parts : IsAggregate a) (waits : AllByRecursion (λ p. Waits before a.chunks files p.0) a.files) (next : List (List ℕ × ℕ)) (u : IsUnclosed AnyCalls a next before now (MalformedData OtherFileHash)) where
   abbrev hash : List ℕ
   hash = xorb_hash (map chunk_leaf a.chunks)
 

@@ -1,12 +1,12 @@
 -- Cleaning by several workers: what it returns, and what it adds to the history.
-use Rattle.std.specs.Prelude.{◌≡◌, ◌≢◌, ◌⊎◌, ◌≤◌, ◌+◌, ◌*◌, ◌∷◌, ◌==◌, ℕ, suc, Bool, List, [], length, map, filter, drop, take, Any, AllPairs, Option, None, Some}
-use Rattle.std.specs.List.{AllByRecursion, flat_map, sum_by}
+use Rattle.std.specs.Prelude.{◌≡◌, ◌≢◌, ◌⊎◌, ◌≤◌, ◌+◌, ◌*◌, ◌∷◌, ◌==◌, ℕ, suc, Bool, true, List, [], length, map, filter, drop, take, Any, AllPairs, Option, None, Some, IsSome}
+use Rattle.std.specs.List.{AllByRecursion, IsAmong, flat_map, sum_by}
 use Rattle.std.specs.List.Sorted.{IsPermutation}
 use Rattle.xet_aggregate.specs.declared.metrics.DeduplicationMetrics.{DeduplicationMetrics}
 use Rattle.xet_choices.specs.Calls.{Call, registered_chunks}
 use Rattle.xet_choices.specs.Choices.{new_chunks, no_place_entries}
 use Rattle.xet_choices.specs.declared.choice.Choice.{Choice}
-use Rattle.xet_clean.specs.Cleaning.{EachTaken, RecordsFile, RegistersFew, calls_since, entries_since, files_in, metrics_sum}
+use Rattle.xet_clean.specs.Cleaning.{AreRecords, ClosesLast, EachTaken, RecordsFile, RegistersFew, calls_since, entries_since, files_in, metrics_sum}
 use Rattle.xet_clean.specs.Files.{HasChoices}
 use Rattle.xet_clean.specs.Policies.{info_by}
 use Rattle.xet_clean.specs.Sources.{AreRead}
@@ -25,7 +25,9 @@ use Rattle.xet_steps.specs.Alone.{IsFault}
 use Rattle.xet_steps.specs.Holders.{calls_in, numbered}
 use Rattle.xet_steps.specs.Recorded.{RecordedState, core_of}
 use Rattle.xet_steps.specs.Steps.{Steps}
-use Rattle.xet_store.specs.Cleaning.{EachTold}
+use Rattle.xet_store.specs.Cleaning.{Adds, EachTold, HasFile, chunkings, info_of}
+use Rattle.xet_store.specs.Separate.{Separate}
+use Rattle.xet_store.specs.Store.{plan_of}
 use Rattle.xet_store.specs.declared.info.XetFileInfo.{XetFileInfo}
 
 -- ---- the entries of one pass
@@ -60,6 +62,7 @@ AreChosenBy workers s calls ((b ∷ bs) ∷ fs) (c ∷ cs) (r ∷ records) = Has
 
 -- Workers returned this of the sources, between two states. As `IsCleaned` of `xet_clean`, but the records of the files are made in
 -- any order, and the choices of a file are true over the calls of one pass. Each file that is not empty has a record of its own.
+-- The entries were made by the passes of the workers and by pass 0.
 pub record IsCleanedBy {S : Type 0} (workers : ℕ) (tells : S → Bool) (left : S → List ℕ) (sources : List S) (old new : RecordedState) (infos : List XetFileInfo) (choices : List (List Choice)) (metrics : DeduplicationMetrics) : Type 0 where
   pub files : List (List ℕ)
   pub told : EachTold tells left (λ bytes file. file ≡ bytes) sources files
@@ -73,29 +76,56 @@ pub record IsCleanedBy {S : Type 0} (workers : ℕ) (tells : S → Bool) (left :
   pub sums : metrics ≡ metrics_sum old.store.limits files choices
   pub registers : RegistersFew (calls_since old new)
   pub bound : length (entries_since old new) ≤ 3 * sum_by (λ (c : List Choice). length c) choices + 2 * length files
+  pub passes : AllByRecursion (λ e. pass_of e ≤ workers) (entries_since old new)
 
 -- ---- what was taken before an error
 
--- Sources that were read in turn: those before one were read to their ends, and had no more bytes than this, and those after it
--- were not read.
-pub record IsReadInTurn {S : Type 0} (tells : S → Bool) (left : S → List ℕ) (most : ℕ) (sources now : List S) : Type 0 where
-  pub same : length now ≡ length sources
+-- Sources that one worker read in turn, as they were and as they are; what it took of each; and how many it read to their ends.
+pub record Turn (S : Type 0) : Type 0 where
+  pub sources : List S
+  pub now : List S
+  pub files : List (List ℕ)
   pub done : ℕ
-  pub within : done ≤ length sources
-  pub read : AreRead tells left most (take done sources) (take done now)
-  pub untouched : drop (suc done) now ≡ drop (suc done) sources
+
+-- what was taken of the sources
+abbrev pub taken_files : {S : Type 0} → List (Turn S) → List (List ℕ)
+taken_files ts = flat_map (λ t. t.files) ts
+
+-- the files of the sources that were read to their ends
+abbrev pub whole_files : {S : Type 0} → List (Turn S) → List (List ℕ)
+whole_files ts = flat_map (λ t. take t.done t.files) ts
+
+-- The sources before one were read to their ends, and had no more bytes than this, and those after it were not read.
+pub record IsReadInTurn {S : Type 0} (tells : S → Bool) (left : S → List ℕ) (most : ℕ) (t : Turn S) : Type 0 where
+  pub same : length t.now ≡ length t.sources
+  pub taken : EachTaken tells left t.sources t.now t.files
+  pub within : t.done ≤ length t.sources
+  pub read : AreRead tells left most (take t.done t.sources) (take t.done t.now)
+  pub untouched : drop (suc t.done) t.now ≡ drop (suc t.done) t.sources
 
 -- After an error: the sources are in parts, at most one for each worker, and each part was read in turn up to some source. There
--- are at most three entries for each chunk of what was taken and two for each source.
+-- are at most three entries for each chunk of what was taken and two for each source, made by the passes of the workers and by
+-- pass 0. The files recorded are files of sources that were read to their ends. Each has a plan; and if disk and sources are
+-- observable, and there are no collisions among the data seen, it resolves to the file's chunks. At most one xorb, the last, was
+-- registered without further chunks.
 pub record IsBoundedBy {S : Type 0} (workers : ℕ) (tells : S → Bool) (left : S → List ℕ) (sources now : List S) (old new : RecordedState) : Type 0 where
-  pub parts : List (List S × List S)
+  pub parts : List (Turn S)
   pub few : length parts ≤ workers
-  pub before : sources ≡ flat_map (λ p. p.0) parts
-  pub after : now ≡ flat_map (λ p. p.1) parts
-  pub turns : AllByRecursion (λ p. IsReadInTurn tells left old.store.limits.max_source_bytes p.0 p.1) parts
-  pub files : List (List ℕ)
-  pub taken : EachTaken tells left sources now files
-  pub bound : length (entries_since old new) ≤ 3 * sum_by (λ f. length (chunking old.store.limits f)) files + 2 * length files
+  pub before : sources ≡ flat_map (λ t. t.sources) parts
+  pub after : now ≡ flat_map (λ t. t.now) parts
+  pub turns : AllByRecursion (IsReadInTurn tells left old.store.limits.max_source_bytes) parts
+  pub taken : EachTaken tells left sources now (taken_files parts)
+  pub bound : length (entries_since old new) ≤ 3 * sum_by (λ f. length (chunking old.store.limits f)) (taken_files parts) + 2 * length (taken_files parts)
+  pub passes : AllByRecursion (λ e. pass_of e ≤ workers) (entries_since old new)
+  pub recorded : List (List ℕ)
+  pub among : AllByRecursion (IsAmong (whole_files parts)) recorded
+  pub records : AreRecords Compute old.store.limits recorded (files_in (entries_since old new))
+  pub adds : Adds old.store.records new.store.records (map (λ f. (info_of old.store.limits f).hash) recorded)
+  pub plans : AllByRecursion (λ f. IsSome (plan_of new.store.records (info_of old.store.limits f).hash)) recorded
+  pub resolve : old.store.tells ≡ true → AllByRecursion (λ s. tells s ≡ true) sources → Separate new.store (chunkings left old.store.limits sources)
+      → AllByRecursion (HasFile new.store) (map (chunking old.store.limits) recorded)
+  pub last : List (List ℕ × ℕ)
+  pub registers : ClosesLast last (calls_since old new)
 
 -- ---- the history
 

@@ -61,7 +61,7 @@ pub record HasStopped {S : Type 0} (tells : S → Bool) (left : S → List ℕ) 
   pub stopped : Bool
   pub passed : HasPassed store number begun pass stopped
   pub why : IsLoopError tells left faults sources now (passing_of begun begun false) (passing_of begun pass stopped) cause
-  pub short : IsCutShort Compute tells left sources now (passing_of begun begun false) (passing_of begun pass stopped) cause
+  pub short : IsCutShort [] Compute tells left sources now (passing_of begun begun false) (passing_of begun pass stopped) cause
 
 -- ---- seats
 

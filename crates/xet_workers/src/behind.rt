@@ -1,4 +1,5 @@
-//! `Behind`: the SHA-256 of a file is computed on a thread of its own, some blocks behind the chunks.
+//! `Behind`: the SHA-256 of a file with large blocks is computed on a thread of its own, if one can be started, some blocks behind
+//! the chunks.
 
 ghost use Rattle.std.specs.Prelude.{◌≡◌, ◌++◌, [], ◌∷◌, ℕ, IfErr, IfOk, List, None, false, true};
 ghost use Rattle.std.specs.List.{concat};

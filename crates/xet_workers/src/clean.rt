@@ -27,16 +27,17 @@ use xet_io::{Disk, Source};
 use xet_locked_session::{Naming, Opened, Pass, StoppingSession};
 use xet_steps::Store;
 
-/// Reads each of at most 2^20 sources to its end and stores its file. The sources are divided among the workers before the first
-/// is read, in order and evenly. All workers but the last run on threads of their own if these can be started, and the rest on the
-/// calling one. Each cleans its sources in order, as the pass of its number, from 1 on. Reading, splitting, and the hashing of
-/// chunks and files are done outside the lock, and the SHA-256 of a file some blocks behind its chunks, on one more thread, if one
-/// can be started; a file's hashes are checked once more, and shards are hashed, under the lock. A chunk for which a query finds a run is
-/// not stored again, unless the guard against fragmentation rejects the run; chunks that still wait for their xorb are not found.
-/// The last chunks of the files of a worker share xorbs; those that wait when all workers are done are merged in order and stored
-/// by the caller, as pass 0. Returns the session, and for each source, in order, its pointer record and the choices for its
-/// chunks, with the metrics of all. The first error stops each worker at its next step; of several, which is returned is not said.
-/// After an error the steps before it stand. The errors are those of `xet_clean::clean_files`.
+/// Reads each of at most 2^20 sources to its end and stores its file. The sources are divided among the workers before the
+/// first is read, in order and evenly. All workers but the last run on threads of their own if these can be started, and the
+/// rest on the calling one. Each cleans its sources in order, as the pass of its number, from 1 on. Reading, splitting, and the
+/// hashing of chunks and files are done outside the lock, and the SHA-256 of a file some blocks behind its chunks, on one more
+/// thread, if one can be started; under the lock each xorb is encoded, written and synced, a file's hashes are checked once
+/// more, and shards are hashed. A chunk for which a query finds a run is not stored again, unless the guard against
+/// fragmentation rejects the run; chunks that still wait for their xorb are not found. The last chunks of the files of a worker
+/// share xorbs; those that wait when all workers are done are merged in order and stored by the caller, as pass 0. Returns the
+/// session, and for each source, in order, its pointer record and the choices for its chunks, with the metrics of all. By the
+/// code, the first error stops each worker at its next step; of several, which is returned is not said. After an error the
+/// steps before it stand. The errors are those of `xet_clean::clean_files`.
 pub fn clean_files<D: Disk + Send, S: Source + Send, R: Threads + Wait + Sync>(
     rt: &R,
     alloc: Global,
@@ -63,7 +64,7 @@ pub fn clean_files<D: Disk + Send, S: Source + Send, R: Threads + Wait + Sync>(
     // If Ok, each chunk has a choice, which is true by the entries of one pass; each file that is not empty is recorded once, with
     // its range hashes and its SHA-256, and no other file is recorded; the metrics are the sums of the choices; as many chunks
     // were registered as are new; each xorb but the last was registered with the further chunks that did not fit, which are part
-    // of a later one; and the entries are few.
+    // of a later one; and the entries are few, made by the passes of the workers and by pass 0.
     ensures cleaned { IfOk result.1 (λ cleaned. IsCleanedBy workers S.tells S.left sources.old session result.0 cleaned.infos.items cleaned.choices.items cleaned.metrics) }
 
     // Whatever the result, nothing is taken away, and the history grew by completed steps of passes and at most one that failed,
@@ -83,7 +84,10 @@ pub fn clean_files<D: Disk + Send, S: Source + Send, R: Threads + Wait + Sync>(
 
     // After an error: the sources are in parts, at most one for each worker. Each part was read in turn up to some source: those
     // before it were read to their ends, and had no more bytes than the limits allow, and those after it were not read. There
-    // are at most three entries for each chunk of what was taken and two for each source.
+    // are at most three entries for each chunk of what was taken and two for each source, made by the passes of the workers and
+    // by pass 0. Each file that was recorded is that of a source that was read to its end, with its range hashes and its SHA-256;
+    // it has a plan as above, and new records are under the hashes of these files. At most one xorb, the last, was registered
+    // without further chunks.
     ensures bound { IfErr result.1 (λ e. IsBoundedBy workers S.tells S.left sources.old sources.new session result.0) }
 {
     let team = workers.min(sources.len().max(1) as u32);

@@ -1,5 +1,5 @@
 //! Workers that share a session: each has a pass and a part of the sources, and cleans the files of its part. The SHA-256 of a
-//! file is computed on a thread of its own.
+//! file with large blocks is computed on a thread of its own, if one can be started.
 #![tactic(auto)]
 
 mod behind;

@@ -31,7 +31,7 @@ fn clean_part<D: Disk, J: Naming, S: Source, R: Threads + Wait>(
     requires count { length sources.old ≤ 2 ^ 20 }
     requires pass { IsPassOf J.store pass × (pass.own ≡ []) }
     ensures cleaned { IfOk result.1 (λ w. HasPassed J.store pass.number pass result.0 false × HasCleaned Compute S.tells S.left S.faults sources.old sources.new (passing_of pass pass false) (passing_of pass result.0 false) w.cleaned.infos.items w.cleaned.choices.items w.cleaned.metrics w.aggregate) }
-    ensures refused { IfErr result.1 (λ e. (stopped : Bool) × HasPassed J.store pass.number pass result.0 stopped × (IsLoopError S.tells S.left S.faults sources.old sources.new (passing_of pass pass false) (passing_of pass result.0 stopped) e × IsCutShort Compute S.tells S.left sources.old sources.new (passing_of pass pass false) (passing_of pass result.0 stopped) e)) }
+    ensures refused { IfErr result.1 (λ e. (stopped : Bool) × HasPassed J.store pass.number pass result.0 stopped × (IsLoopError S.tells S.left S.faults sources.old sources.new (passing_of pass pass false) (passing_of pass result.0 stopped) e × IsCutShort [] Compute S.tells S.left sources.old sources.new (passing_of pass pass false) (passing_of pass result.0 stopped) e)) }
     ensures tell { map S.tells sources.new ≡ map S.tells sources.old }
     ensures taken { AreTaken S.tells S.left sources.old sources.new }
     ensures later { Later S.faults sources.old sources.new }
@@ -58,7 +58,7 @@ fn clean_whole<D: Disk, J: Naming, S: Source, R: Threads + Wait>(
     requires nothing { (working.cleaned.infos.items ≡ []) × (working.cleaned.choices.items ≡ []) × (working.cleaned.metrics ≡ zeros) × (working.aggregate ≡ empty) }
     requires room { (length sources.old ≤ vec_capacity working.cleaned.infos) × (length sources.old ≤ vec_capacity working.cleaned.choices) }
     ensures cleaned { IfOk result.1 (λ w. HasPassed J.store passing.entry.pass.number passing.entry.pass result.0 false × HasCleaned Compute S.tells S.left S.faults sources.old sources.new (passing_of passing.entry.pass passing.entry.pass false) (passing_of passing.entry.pass result.0 false) w.cleaned.infos.items w.cleaned.choices.items w.cleaned.metrics w.aggregate) }
-    ensures refused { IfErr result.1 (λ e. (stopped : Bool) × HasPassed J.store passing.entry.pass.number passing.entry.pass result.0 stopped × (IsLoopError S.tells S.left S.faults sources.old sources.new (passing_of passing.entry.pass passing.entry.pass false) (passing_of passing.entry.pass result.0 stopped) e × IsCutShort Compute S.tells S.left sources.old sources.new (passing_of passing.entry.pass passing.entry.pass false) (passing_of passing.entry.pass result.0 stopped) e)) }
+    ensures refused { IfErr result.1 (λ e. (stopped : Bool) × HasPassed J.store passing.entry.pass.number passing.entry.pass result.0 stopped × (IsLoopError S.tells S.left S.faults sources.old sources.new (passing_of passing.entry.pass passing.entry.pass false) (passing_of passing.entry.pass result.0 stopped) e × IsCutShort [] Compute S.tells S.left sources.old sources.new (passing_of passing.entry.pass passing.entry.pass false) (passing_of passing.entry.pass result.0 stopped) e)) }
     ensures tell { map S.tells sources.new ≡ map S.tells sources.old }
     ensures taken { AreTaken S.tells S.left sources.old sources.new }
     ensures later { Later S.faults sources.old sources.new }

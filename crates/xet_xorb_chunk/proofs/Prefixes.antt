@@ -25,7 +25,11 @@ prefix_then left middle rest (n, first) (m, next) = (n + m, next ∙ ap (drop m)
 
 pub fills_prefix : (left buffer rest : List ℕ) (r : Result ℕ StoreError) → Fills left buffer r rest → TakesPrefix left rest
 fills_prefix left buffer rest (Ok count) fills = taken_prefix left (take count buffer) rest fills.taken
-fills_prefix left buffer rest (Err e) taken = taken
+fills_prefix left buffer rest (Err e) (n, few, taken) = (n, taken)
+
+-- what a read that failed has taken
+pub failed_prefix : (left buffer rest : List ℕ) → ((n : ℕ) × (n ≤ length buffer) × (rest ≡ drop n left)) → TakesPrefix left rest
+failed_prefix left buffer rest (n, few, taken) = (n, taken)
 
 -- the bytes of a header were read, or ended
 pub header_left : (count : ℕ) (buffer left rest : List ℕ) → length buffer ≡ 8 → count ≤ length buffer → FillsWith count buffer left rest → rest ≡ drop 8 left

@@ -15,4 +15,4 @@ pub fills_prefix : (left buffer rest : List ℕ) (r : Result ℕ StoreError) →
 fills_prefix left buffer rest (Ok count) fills =
     let size = length (take count buffer) in
     (size, sym (ap (drop size) fills.taken ∙ drop_at (take count buffer) rest size refl))
-fills_prefix left buffer rest (Err e) taken = taken
+fills_prefix left buffer rest (Err e) (n, few, taken) = (n, taken)

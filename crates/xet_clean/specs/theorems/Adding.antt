@@ -22,14 +22,14 @@ use Rattle.xet_history.specs.declared.entry.StepKind.{StepKind}
 use Rattle.xet_steps.specs.Steps.{fault_entries}
 use Rattle.xet_steps.specs.Holders.{Follows, FollowsAsking, Holder, IsCall, calls_in, calls_of, core_found, ended, grown, numbered, seen}
 use Rattle.xet_steps.specs.Stepping.{SawComplete, SawError, SawOther, SawRegister}
-use Rattle.xet_steps.specs.theorems.Following.{calls_in-append, follows_nothing, follows_then, length-numbered}
+use Rattle.xet_steps.specs.theorems.Following.{calls_in-append, follows_nothing, follows_then, length-numbered, numbered-append}
 use Rattle.xet_xorb.specs.Raw.{xorb_record}
 use Rattle.xet_xorb_chunk.specs.Chunks.{chunk_leaf}
 use Rattle.xet_xorb_chunk.specs.declared.chunk.Chunk.{Chunk}
 use Rattle.xet_clean.specs.Cleaning.{close_of, files_in}
 use Rattle.xet_clean.specs.Closing.{Closes, Completes, Records, RecordsFirst, RegistersChunks, filled_files, recorded_in}
 use Rattle.xet_clean.specs.theorems.Counting.{complete_count, register_count}
-use Rattle.xet_clean.specs.theorems.Keeping.{own_follows}
+use Rattle.xet_clean.specs.theorems.Keeping.{own_follows, own_nothing, own_same, own_then}
 
 -- ---- among
 
@@ -235,15 +235,32 @@ records_then files others a b c x y = record {
       ∙ ap (λ (l : List MDBFileInfo). files ++ l) y.are;
 }
 
+-- the calls of what was done
+pub calls_nothing : (h : Holder) (f : Follows h h) → calls_in f.own ≡ []
+calls_nothing h f = ap calls_in (own_nothing h f)
+
+pub calls_added : (calls : List Call) (files : List MDBFileInfo) (most : ℕ) (a b : Holder) → Adds calls files most a b → (f : Follows a b) → calls_in f.own ≡ calls
+calls_added calls files most a b x f = ap calls_in (own_same a b f x.follows) ∙ x.are
+
+pub calls_both : (a b c : Holder) (f : Follows a b) (g : Follows b c) (h : Follows a c) → calls_in h.own ≡ calls_in f.own ++ calls_in g.own
+calls_both a b c f g h = ap calls_in (own_then a b c f g h) ∙ calls_in-append f.own g.own
+
 -- none of them, all of them, and the first ones later
-pub first_none : (files : List MDBFileInfo) (a b : Holder) → Records [] a b → RecordsFirst files a b
-first_none files a b x = (0, x)
+pub first_none : (Are : List Call → Type 0) (files : List MDBFileInfo) (a b : Holder) (x : Records [] a b) → Are (calls_in x.follows.own) → RecordsFirst Are files a b
+first_none Are files a b x are = (0, x, are)
 
-pub first_all : (files : List MDBFileInfo) (a b : Holder) → Records files a b → RecordsFirst files a b
-first_all files a b x = (length files, subst (λ (l : List MDBFileInfo). Records l a b) (sym (take_all (length files) files (omega arith))) x)
+pub first_all : (Are : List Call → Type 0) (files : List MDBFileInfo) (a b : Holder) → Records files a b → ((f : Follows a b) → Are (calls_in f.own)) → RecordsFirst Are files a b
+first_all Are files a b x are =
+    let r : Records (take (length files) files) a b = subst (λ (l : List MDBFileInfo). Records l a b) (sym (take_all (length files) files (omega arith))) x in
+    (length files, r, are r.follows)
 
-pub first_then : (files : List MDBFileInfo) (a b c : Holder) → Records [] a b → RecordsFirst files b c → RecordsFirst files a c
-first_then files a b c x y = (y.0, records_then [] (take y.0 files) a b c x y.1)
+pub first_then : (P Q : List Call → Type 0) (files : List MDBFileInfo) (a b c : Holder) (x : Records [] a b) → ((calls : List Call) → P calls → Q (calls_in x.follows.own ++ calls)) → RecordsFirst P files b c → RecordsFirst Q files a c
+first_then P Q files a b c x go y =
+    let r : Records (take y.0 files) a c = records_then [] (take y.0 files) a b c x y.1 in
+    (y.0, r, subst Q (sym (calls_both a b c x.follows y.1.follows r.follows)) (go (calls_in y.1.follows.own) y.2))
+
+pub first_weaker : (P Q : List Call → Type 0) (files : List MDBFileInfo) (a b : Holder) → ((calls : List Call) → P calls → Q calls) → RecordsFirst P files a b → RecordsFirst Q files a b
+first_weaker P Q files a b go y = (y.0, y.1, go (calls_in y.1.follows.own) y.2)
 
 fault_none : (pass : ℕ) (kind : StepKind) (e : StoreError) → AllByRecursion IsCall (fault_entries pass kind e)
 fault_none pass kind (Io Disk) = (tt, tt)
@@ -273,6 +290,10 @@ module _ (old new : Holder) (others added : List Entry) (is : new ≡ ended old 
   abbrev stopping : Holder → Holder
   stopping h = record old { since = old.since ++ (others ++ added); own = old.own ++ numbered (length (seen old) + length others) added; stopped = h.stopped }
 
+  own_ended : (f : Follows old new) → f.own ≡ numbered (length (seen old) + length others) added
+  own_ended f =
+      append_cancel_left old.own f.own (numbered (length (seen old) + length others) added) (sym (own_follows old new f) ∙ ap (λ (h : Holder). h.own) is)
+
   records_ended : AllByRecursion IsCall added → Records [] old new
   records_ended all = record {
     follows = record { since = others ++ added; own = numbered (length (seen old) + length others) added; is = is ∙ ap stopping (sym is) };
@@ -291,3 +312,44 @@ records_error kind cut old new e none saw =
 
 pub records_other : (file : MDBFileInfo) (old new : Holder) (e : StoreError) → SawOther file old new e → Records [] old new
 records_other file old new e saw = records_ended old new saw.others [] saw.is tt
+
+-- it made no call
+
+flush_calls : (n pass : ℕ) (c : Core) (target bytes : ℕ) → calls_in (numbered n (cut_entries pass c target bytes)) ≡ []
+flush_calls n pass c target bytes = go (is_cut_due c target bytes)
+  where
+    go : (b : Bool) → calls_in (numbered n (if b then Flush pass (pending_hash c) ∷ [] else [])) ≡ []
+    go true = refl
+    go false = refl
+
+known_calls : (n : ℕ) (b : Bool) (cut : List Entry) → calls_in (numbered n cut) ≡ [] → calls_in (numbered n (if b then cut else [])) ≡ []
+known_calls n true cut none = none
+known_calls n false cut none = refl
+
+pub register_cut_calls : (n pass : ℕ) (c : Core) (target : ℕ) (leaves : List (List ℕ × ℕ)) → calls_in (numbered n (register_cut pass c target leaves)) ≡ []
+register_cut_calls n pass c target leaves =
+    let bytes : ℕ = xorb_record_size (xorb_record (xorb_hash leaves) leaves) in
+    known_calls n (is_new c.xorbs (xorb_hash leaves)) (cut_entries pass c target bytes) (flush_calls n pass c target bytes)
+
+pub complete_cut_calls : (n pass : ℕ) (c : Core) (target : ℕ) (file : MDBFileInfo) → calls_in (numbered n (complete_cut pass c target file)) ≡ []
+complete_cut_calls n pass c target file =
+    known_calls n (is_new c.records (file_record_hash file)) (cut_entries pass c target (file_record_size file)) (flush_calls n pass c target (file_record_size file))
+
+fault_calls : (n pass : ℕ) (kind : StepKind) (e : StoreError) → calls_in (numbered n (fault_entries pass kind e)) ≡ []
+fault_calls n pass kind (Io Disk) = refl
+fault_calls n pass kind e = refl
+
+pub calls_error : (kind : StepKind) (cut : Core → List Entry) (old new : Holder) (e : StoreError) → ((n : ℕ) (c : Core) → calls_in (numbered n (cut c)) ≡ []) → SawError kind cut old new e → (f : Follows old new) → calls_in f.own ≡ []
+calls_error kind cut old new e none saw f =
+    let n : ℕ = length (seen old) + length saw.others in
+    ap calls_in (own_ended old new saw.others (saw.done ++ fault_entries old.number kind e) saw.is f ∙ numbered-append n saw.done (fault_entries old.number kind e))
+    ∙ calls_in-append (numbered n saw.done) (numbered (n + length saw.done) (fault_entries old.number kind e))
+    ∙ ap (λ (l : List Call). l ++ calls_in (numbered (n + length saw.done) (fault_entries old.number kind e))) (go saw.completed)
+    ∙ fault_calls (n + length saw.done) old.number kind e
+  where
+    go : (saw.done ≡ []) ⊎ (saw.done ≡ cut (core_found old saw.others)) → calls_in (numbered (length (seen old) + length saw.others) saw.done) ≡ []
+    go (inl is) = ap (λ (l : List Entry). calls_in (numbered (length (seen old) + length saw.others) l)) is
+    go (inr is) = ap (λ (l : List Entry). calls_in (numbered (length (seen old) + length saw.others) l)) is ∙ none (length (seen old) + length saw.others) (core_found old saw.others)
+
+pub calls_other : (file : MDBFileInfo) (old new : Holder) (e : StoreError) → SawOther file old new e → (f : Follows old new) → calls_in f.own ≡ []
+calls_other file old new e saw f = ap calls_in (own_ended old new saw.others [] saw.is f)

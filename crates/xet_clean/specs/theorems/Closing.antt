@@ -15,11 +15,11 @@ use Rattle.xet_history.specs.declared.entry.StepKind.{StepKind}
 use Rattle.xet_history.specs.declared.entry.StepKind.TheVariants as step
 use Rattle.xet_shard_format.specs.declared.record.MDBFileInfo.{MDBFileInfo}
 use Rattle.xet_steps.specs.Interface.{IsErrorSince}
-use Rattle.xet_steps.specs.Holders.{Follows, Holder, core_at, core_found, numbered, seen}
+use Rattle.xet_steps.specs.Holders.{Follows, Holder, calls_in, core_at, core_found, numbered, seen}
 use Rattle.xet_steps.specs.Stepping.{SawError, SawOther, cut_to_complete}
 use Rattle.xet_steps.specs.theorems.Following.{follows_nothing, follows_then}
 use Rattle.xet_clean.specs.Closing.{IsAtMost, IsClosingError, Records}
-use Rattle.xet_clean.specs.theorems.Adding.{among_right, complete_cut_none, records_error, records_other}
+use Rattle.xet_clean.specs.theorems.Adding.{among_right, calls_error, calls_other, complete_cut_calls, complete_cut_none, records_error, records_other}
 use Rattle.xet_clean.specs.theorems.Counting.{complete_cut_count, complete_cut_pending, error_at_most, other_at_most}
 
 -- ---- among
@@ -109,3 +109,7 @@ refused_at_most file old new e (inr saw) =
 pub refused_records : (file : MDBFileInfo) (old new : Holder) (e : StoreError) → IsRefusal file old new e → Records [] old new
 refused_records file old new e (inl other) = records_other file old new e other
 refused_records file old new e (inr saw) = records_error step.Complete (cut_to_complete old file) old new e (λ c. complete_cut_none old.number c old.limits.shard_target file) saw
+
+pub refused_calls : (file : MDBFileInfo) (old new : Holder) (e : StoreError) → IsRefusal file old new e → (f : Follows old new) → calls_in f.own ≡ []
+refused_calls file old new e (inl other) f = calls_other file old new e other f
+refused_calls file old new e (inr saw) f = calls_error step.Complete (cut_to_complete old file) old new e (λ n c. complete_cut_calls n old.number c old.limits.shard_target file) saw f

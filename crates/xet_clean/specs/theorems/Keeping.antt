@@ -1,5 +1,6 @@
 -- What is listed and what stands stays when a holder goes on, or another has seen as much; so do records that wait.
-use Rattle.std.proofs.Common.{◌≡◌, ◌∙◌, inl, inr, ℕ, List, [], ◌∷◌, ◌++◌, map, Option, Some, None, option_map, refl, sym, ap, subst, arith}
+use Rattle.std.proofs.Common.{◌≡◌, ◌∙◌, inl, inr, ℕ, List, [], ◌∷◌, ◌++◌, map, Option, Some, None, option_map, refl, sym, ap, subst, append-nil, append_assoc, arith}
+use Rattle.std.proofs.lemmas.List.{append_cancel_left}
 use Rattle.std.specs.Prelude.{Any}
 use Rattle.std.proofs.lemmas.List.Elements.{Contains-append_left, Contains-append_right}
 use Rattle.xet_choices.specs.Choices.{hashes_of}
@@ -11,6 +12,7 @@ use Rattle.xet_history.specs.Core.{Core, RegisteredShard}
 use Rattle.xet_history.specs.Found.{key_of}
 use Rattle.xet_history.specs.History.{after_all}
 use Rattle.xet_history.specs.Sound.{IsKey, IsStanding}
+use Rattle.xet_history.specs.declared.entry.Entry.{Entry}
 use Rattle.xet_history.specs.theorems.Joining.{after_all-append}
 use Rattle.xet_history.specs.theorems.Staying.{listed_after_all, shards_after_all}
 use Rattle.xet_shard_format.specs.declared.record.FileDataSequenceEntry.{FileDataSequenceEntry as Segment}
@@ -46,6 +48,18 @@ limits_follow a b f = ap (λ (h : Holder). h.limits) f.is
 
 pub own_follows : (a b : Holder) (f : Follows a b) → b.own ≡ a.own ++ f.own
 own_follows a b f = ap (λ (h : Holder). h.own) f.is
+
+-- two ways to see what it added
+pub own_same : (a b : Holder) (f g : Follows a b) → f.own ≡ g.own
+own_same a b f g = append_cancel_left a.own f.own g.own (sym (own_follows a b f) ∙ own_follows a b g)
+
+pub own_nothing : (a : Holder) (f : Follows a a) → f.own ≡ []
+own_nothing a f = append_cancel_left a.own f.own [] (sym (own_follows a a f) ∙ sym (append-nil a.own))
+
+pub own_then : (a b c : Holder) (f : Follows a b) (g : Follows b c) (h : Follows a c) → h.own ≡ f.own ++ g.own
+own_then a b c f g h =
+    append_cancel_left a.own h.own (f.own ++ g.own)
+    (sym (own_follows a c h) ∙ own_follows b c g ∙ ap (λ (l : List (ℕ × Entry)). l ++ g.own) (own_follows a b f) ∙ append_assoc a.own f.own g.own)
 
 -- it has seen what it had seen before
 pub seen_follows : (a b : Holder) → Follows a b → HasSeen a b

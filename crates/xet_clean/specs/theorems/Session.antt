@@ -1,6 +1,6 @@
 -- What cleaning with a session that is alone leaves of it: the entries since the session began are its own.
-use Rattle.std.proofs.Common.{◌≡◌, ◌∙◌, ◌⊎◌, inl, inr, ℕ, Bool, true, false, List, [], ◌∷◌, ◌++◌, length, map, drop, Option, None, IsSome, refl, sym, ap, subst, arith, take}
-use Rattle.std.proofs.lemmas.List.{drop_all, drop_at, length-map}
+use Rattle.std.proofs.Common.{◌≡◌, ◌∙◌, ◌⊎◌, ◌≤◌, inl, inr, ℕ, zero, suc, Bool, true, false, List, [], ◌∷◌, ◌++◌, length, map, drop, Option, None, IsSome, refl, sym, ap, subst, append-nil, arith, take}
+use Rattle.std.proofs.lemmas.List.{drop_all, drop_at, length-map, take_all}
 use Rattle.std.proofs.lemmas.Simd.{map-map}
 use Rattle.std.specs.List.{AllByRecursion, sum_by}
 use Rattle.xet_aggregate.specs.declared.metrics.DeduplicationMetrics.{DeduplicationMetrics}
@@ -8,6 +8,7 @@ use Rattle.xet_base.specs.theorems.Elements.{all_more}
 use Rattle.xet_choices.specs.Calls.{registered_chunks}
 use Rattle.xet_choices.specs.Choices.{new_chunks}
 use Rattle.xet_choices.specs.declared.choice.Choice.{Choice}
+use Rattle.xet_cut.specs.Chunking.{chunking}
 use Rattle.xet_cut.specs.declared.limits.LimitSettings.{LimitSettings}
 use Rattle.xet_hash.specs.declared.error.StoreError.{StoreError}
 use Rattle.xet_history.specs.Core.{Core}
@@ -18,13 +19,15 @@ use Rattle.xet_shard_format.specs.Records.{file_record_hash}
 use Rattle.xet_shard_format.specs.declared.record.MDBFileInfo.{MDBFileInfo}
 use Rattle.xet_steps.specs.Recorded.{RecordedState, core_of}
 use Rattle.xet_steps.specs.Steps.{Steps}
-use Rattle.xet_store.specs.Cleaning.{Adds, EachTold, info_of}
+use Rattle.xet_store.specs.Cleaning.{Adds, EachTold, HasFile, chunkings, info_of}
+use Rattle.xet_store.specs.Separate.{Among, Separate}
 use Rattle.xet_store.specs.Store.{Sound, plan_of}
 use Rattle.xet_store.specs.declared.info.XetFileInfo.{XetFileInfo}
+use Rattle.xet_store.specs.theorems.Files.{recorded_file}
 use Rattle.xet_steps.specs.Alone.{IsAlone, StepsTo, StepsUntil, alone_of}
 use Rattle.xet_steps.specs.Holders.{Follows, Holder, calls_in, core_at, numbered}
 use Rattle.xet_steps.specs.theorems.Following.{length-numbered}
-use Rattle.xet_clean.specs.Cleaning.{AreChosen, AreRecords, Grows, IsBounded, IsCleaned, Makes, RecordsFile, RegistersFew, calls_since, entries_since, files_in, metrics_sum}
+use Rattle.xet_clean.specs.Cleaning.{AreChosen, AreRecords, ClosesLast, EachTaken, Grows, IsBounded, IsCleaned, Makes, RecordsFile, RegistersFew, calls_since, entries_since, files_in, metrics_sum}
 use Rattle.xet_clean.specs.Closing.{recorded_in}
 use Rattle.xet_clean.specs.Sources.{IsCutShort}
 use Rattle.xet_clean.specs.Working.{AreRecorded, EndsWith, Planned}
@@ -113,13 +116,47 @@ adds_since policy old new stopped is sound files are =
     rows_add hashes old.store.records new.store.records
     (subst (λ (c : Core). HasRows hashes old.store.records c.records) (sym (core_is old new stopped is)) rows) sound.records_differ
 
+-- each file that was recorded has a plan
+pub plans_since : (policy : Sha256Policy) (old new : RecordedState) (entries : List Entry) → core_of new ≡ after_all (core_of old) entries → (files : List (List ℕ)) → AreRecords policy old.store.limits files (files_in entries)
+    → AllByRecursion (λ f. IsSome (plan_of new.store.records (info_of old.store.limits f).hash)) files
+plans_since policy old new entries leads files are =
+    plans_found policy old.store.limits new.store.records files (files_in entries) are
+    (subst (λ (c : Core). AllByRecursion (λ (r : MDBFileInfo). IsSome (found c.records (file_record_hash r))) (files_in entries)) (sym leads) (recorded_found (core_of old) entries))
+
+-- and the plan resolves, if these files are among those for which there are no collisions
+pub plans_resolve : (s : LimitSettings) (new : RecordedState) (all : List (List (List ℕ))) → Sound new.store → new.store.tells ≡ true → Separate new.store all → (files : List (List ℕ))
+    → AllByRecursion (λ f. Among all (chunking s f)) files → AllByRecursion (λ f. IsSome (plan_of new.store.records (info_of s f).hash)) files → AllByRecursion (HasFile new.store) (map (chunking s) files)
+plans_resolve s new all sound told separate [] among plans = tt
+plans_resolve s new all sound told separate (f ∷ fs) among plans =
+    (recorded_file new.store all (chunking s f) sound told separate among.0 plans.0, plans_resolve s new all sound told separate fs among.1 plans.1)
+
+-- the files of observable sources that were read to their ends are what these had left
+module _ {S : Type 0} (tells : S → Bool) (left : S → List ℕ) (limits : LimitSettings) where
+  pub taken_among : (n m : ℕ) → m ≤ n → (ss ts : List S) (fs : List (List ℕ)) → EachTaken tells left ss ts fs → AllByRecursion (λ s. tells s ≡ true) ss → map tells ts ≡ map tells ss
+      → AllByRecursion (λ t. tells t ≡ true → left t ≡ []) (take n ts) → AllByRecursion (λ f. Among (chunkings left limits ss) (chunking limits f)) (take m fs)
+  taken_among n m le [] ts fs taken all same read =
+      subst (λ (l : List (List ℕ)). AllByRecursion (λ f. Among (chunkings left limits []) (chunking limits f)) l) (sym (ap (take m) taken ∙ take_all m [] (omega arith))) tt
+  taken_among n m le (s ∷ ss) [] fs taken all same read = absurd (cc same)
+  taken_among n m le (s ∷ ss) (t ∷ ts) [] taken all same read = absurd taken
+  taken_among n zero le (s ∷ ss) (t ∷ ts) (f ∷ fs) taken all same read = tt
+  taken_among zero (suc m) le (s ∷ ss) (t ∷ ts) (f ∷ fs) taken all same read = absurd (omega (arith, le))
+  taken_among (suc n) (suc m) le (s ∷ ss) (t ∷ ts) (f ∷ fs) taken all same read =
+      let first : tells t ≡ tells s = cc same in
+      let rest : map tells ts ≡ map tells ss = cc same in
+      let whole : left s ≡ f = taken.0 all.0 ∙ ap (λ (l : List ℕ). f ++ l) (read.0 (first ∙ all.0)) ∙ append-nil f in (
+        inl (ap (chunking limits) whole),
+        all_more (λ (g : List ℕ). Among (chunkings left limits ss) (chunking limits g)) (λ g. Among (chunkings left limits (s ∷ ss)) (chunking limits g)) (take m fs) (λ g a. inr a)
+            (taken_among n m (omega (arith, le)) ss ts fs taken.1 all.1 rest read.1),
+      )
+
 -- after an error
 pub bounded_since : {S : Type 0} (policy : Sha256Policy) (tells : S → Bool) (left : S → List ℕ) (sources now : List S) (old new : RecordedState) (stopped : Bool) (e : StoreError) → IsAlone old new stopped → Sound new.store
-    → IsCutShort policy tells left sources now (alone_of old old false) (alone_of old new stopped) e → IsBounded policy tells left sources now old new e
-bounded_since policy tells left sources now old new stopped e is sound short =
+    → map tells now ≡ map tells sources → (last : List (List ℕ × ℕ)) → IsCutShort last policy tells left sources now (alone_of old old false) (alone_of old new stopped) e → IsBounded policy tells left sources now old new e
+bounded_since policy tells left sources now old new stopped e is sound tell last short =
     let own = own_since old new stopped short.few.0 in
     let files : List (List ℕ) = take short.count short.files in
     let are : AreRecords policy old.store.limits files (files_in (entries_since old new)) = subst (AreRecords policy old.store.limits files) (records_since old new stopped short.few.0) short.records in
+    let plans = plans_since policy old new (entries_since old new) (core_is old new stopped is) files are in
     record {
       files = short.files;
       taken = short.taken;
@@ -134,6 +171,12 @@ bounded_since policy tells left sources now old new stopped e is sound short =
       records = are;
       bound = omega (arith, short.few.1, ap length own, length-numbered (length old.history) (entries_since old new));
       adds = adds_since policy old new stopped is sound files are;
+      plans = plans;
+      resolve = λ told all separate.
+          plans_resolve old.store.limits new (chunkings left old.store.limits sources) sound (is.steps.keeps.tells ∙ told) separate files
+          (taken_among tells left old.store.limits short.done short.count short.recorded sources now short.files short.taken all tell short.read.read) plans;
+      last = last;
+      registers = subst (λ (l : List (ℕ × Entry)). ClosesLast last (calls_in l)) own short.registers;
     }
 
 -- ---- all sources were cleaned

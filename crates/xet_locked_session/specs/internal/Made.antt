@@ -1,5 +1,5 @@
 -- What the steps of the store of a session make of it.
-use Rattle.std.specs.Prelude.{◌≡◌, ◌≢◌, ◌≤◌, ℕ, Bool, true, List, length, Option, Result, Some, IfSome, OnOk}
+use Rattle.std.specs.Prelude.{◌≡◌, ◌≢◌, ◌≤◌, ℕ, Bool, true, List, [], length, Option, Result, Some, IfSome, OnOk}
 use Rattle.std.specs.List.{AllByRecursion}
 use Rattle.xet_completion.specs.Completing.{Completes}
 use Rattle.xet_folder.specs.Xorbs.{IsListed}
@@ -15,6 +15,7 @@ use Rattle.xet_shard.specs.Runs.{held_run}
 use Rattle.xet_shard_format.specs.Records.{file_record_hash}
 use Rattle.xet_shard_format.specs.declared.record.FileDataSequenceEntry.{FileDataSequenceEntry as Segment}
 use Rattle.xet_shard_format.specs.declared.record.MDBFileInfo.{MDBFileInfo}
+use Rattle.xet_steps.specs.Changes.{ChangesFiles}
 use Rattle.xet_steps.specs.Recorded.{RecordedState, core_of}
 use Rattle.xet_steps.specs.Steps.{Steps}
 use Rattle.xet_locked_session.specs.Passes.{flushed_hash}
@@ -23,6 +24,7 @@ use Rattle.xet_locked_session.specs.Session.{HasRisenBy, fault_count}
 -- A query of a pass had this reply.
 pub record Queried (pass : ℕ) (hashes : List (List ℕ)) (old new : RecordedState) (reply : Option (ℕ × Segment)) : Type 0 where
   pub steps : Steps old new (query_entries pass hashes reply)
+  pub changes : ChangesFiles [] old new (query_entries pass hashes reply)
   pub usable : IfSome reply (IsUsableRun old.store.xorbs hashes)
   pub pending : (run : ℕ × Segment) → held_run old.store.pending.blocks hashes ≡ Some run → reply ≡ Some run
   pub found : old.store.tells ≡ true → reply ≡ found_run (core_of old) hashes
@@ -30,6 +32,7 @@ pub record Queried (pass : ℕ) (hashes : List (List ℕ)) (old new : RecordedSt
 -- A xorb of these chunks was registered, and is listed with them. `added`: it was not listed before.
 pub record Registered (pass : ℕ) (leaves next : List (List ℕ × ℕ)) (old new : RecordedState) (added : Bool) : Type 0 where
   pub steps : Steps old new (register_entries pass (core_of old) old.store.limits.shard_target leaves next)
+  pub changes : ChangesFiles [] old new (register_entries pass (core_of old) old.store.limits.shard_target leaves next)
   pub new_hash : added ≡ is_new old.store.xorbs (xorb_hash leaves)
   pub listed : IsListed new.store.xorbs (xorb_hash leaves) leaves
   pub named : xorb_hash leaves ≢ sentinel
@@ -37,6 +40,7 @@ pub record Registered (pass : ℕ) (leaves next : List (List ℕ × ℕ)) (old n
 -- A file was recorded, which could be. `added`: it was not recorded before.
 pub record Completed (pass : ℕ) (file : MDBFileInfo) (old new : RecordedState) (added : Bool) : Type 0 where
   pub steps : Steps old new (complete_entries pass (core_of old) old.store.limits.shard_target file)
+  pub changes : ChangesFiles [] old new (complete_entries pass (core_of old) old.store.limits.shard_target file)
   pub new_hash : added ≡ is_new old.store.records (file_record_hash file)
   pub can : Completes old.store.xorbs file
 

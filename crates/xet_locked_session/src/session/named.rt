@@ -1,11 +1,12 @@
 //! The steps of the store of a session, once there is room for the numbers of their entries.
 
-ghost use Rattle.std.specs.Prelude.{◌≡◌, ◌⊎◌, ◌-◌, ◌+◌, ◌≤◌, [], IfErr, IfOk, length, vec_capacity, vec_len};
+ghost use Rattle.std.specs.Prelude.{◌≡◌, ◌⊎◌, ◌-◌, ◌+◌, ◌≤◌, [], IfErr, IfOk, OnErr, length, vec_capacity, vec_len};
 ghost use Rattle.xet_dedup_queries.specs.Registering.{IsNewXorb};
-ghost use Rattle.xet_history.specs.History.{complete_cut, register_cut};
+ghost use Rattle.xet_history.specs.History.{complete_cut, complete_entries, register_cut, register_entries};
 ghost use Rattle.xet_locked_session.specs.Session.{IsSince};
 ghost use Rattle.xet_locked_session.specs.internal.Made.{Completed, Flushed, Grew, Queried, Registered};
 ghost use Rattle.xet_shard_format.specs.Records.{IsFile};
+ghost use Rattle.xet_steps.specs.Changes.{ChangesFiles, Tries};
 ghost use Rattle.xet_steps.specs.Recorded.{IsRecorded, core_of};
 ghost use Rattle.xet_steps.specs.Steps.{FailsAsking, IsOtherFile, Refuses};
 ghost use Rattle.xet_steps.specs.Holders.{xorb_limits};
@@ -45,6 +46,7 @@ impl<D: Disk, J: Naming> NamedStore<D, J> {
     ) -> Result<Option<(usize, FileDataSequenceEntry)>, StoreError>
         ensures queried { IfOk result (Queried pass hashes.now self.old self.new) }
         ensures refused { IfErr result (FailsAsking pass self.old self.new) }
+        ensures unread { OnErr result (ChangesFiles [] self.old self.new []) }
         ensures grew { Grew pass result self.old self.new }
         ensures room { vec_len own.new + (length self.new.history - length self.old.history) ≤ vec_capacity own.new }
         ensures own { own.new.items ≡ own.old.items }
@@ -63,6 +65,7 @@ impl<D: Disk, J: Naming> NamedStore<D, J> {
         requires new { IsNewXorb (xorb_limits J.store.store.limits) xorb }
         ensures registered { IfOk result (Registered pass (raw_leaves xorb) next.now self.old self.new) }
         ensures refused { IfErr result (Refuses pass StepKind.Register (register_cut pass (core_of self.old) self.old.store.limits.shard_target (raw_leaves xorb)) self.old self.new) }
+        ensures tries { OnErr result (Tries self.old self.new (register_entries pass (core_of self.old) self.old.store.limits.shard_target (raw_leaves xorb) next.now)) }
         ensures grew { Grew pass result self.old self.new }
         ensures room { vec_len own.new + (length self.new.history - length self.old.history) ≤ vec_capacity own.new }
         ensures own { own.new.items ≡ own.old.items }
@@ -80,6 +83,7 @@ impl<D: Disk, J: Naming> NamedStore<D, J> {
         requires form { IsFile file }
         ensures completed { IfOk result (Completed pass file self.old self.new) }
         ensures refused { IfErr result (λ e. IsOtherFile self.old self.new file e ⊎ Refuses pass StepKind.Complete (complete_cut pass (core_of self.old) self.old.store.limits.shard_target file) self.old self.new e) }
+        ensures tries { OnErr result (Tries self.old self.new (complete_entries pass (core_of self.old) self.old.store.limits.shard_target file)) }
         ensures grew { Grew pass result self.old self.new }
         ensures room { vec_len own.new + (length self.new.history - length self.old.history) ≤ vec_capacity own.new }
         ensures own { own.new.items ≡ own.old.items }

@@ -11,6 +11,7 @@ ghost use Rattle.xet_shard_directory.specs.Values.{last_part};
 ghost use Rattle.xet_shard_file.specs.Names.{IsHash};
 ghost use Rattle.xet_shard_format.specs.Names.{shard_name};
 ghost use Rattle.xet_shard.specs.Held.{record_of};
+ghost use Rattle.xet_shard.specs.RunForms.{IsRunFor};
 ghost use Rattle.xet_shard.specs.Runs.{held_run};
 ghost use Rattle.xet_shard_format.specs.Records.{file_record_hash};
 ghost use Rattle.xet_shard_format.specs.declared.record.MDBFileInfo.{MDBFileInfo};
@@ -48,6 +49,7 @@ impl<D: Disk> ShardFileManager<D> {
         ensures pending { (run : Run) → held_run self.old.pending.blocks query.now ≡ Some run → (result ≡ Ok (Some run)) × (self.new ≡ self.old) }
         // Also over files that are not those of the registered shards: a file's rows have the whole hashes of the run.
         ensures there { self.old.tells ≡ true → IfOk result (IsThere self.old.files self.old.pending self.old.registry.files query.now) }
+        ensures shape { IfOk result (λ run. IfSome run (IsRunFor query.now)) }
         ensures rest { self.new ≡ record self.old { faults = self.new.faults } }
         ensures later { self.old.faults ≤ self.new.faults }
         ensures reason { IfErr result (IsQueryError self.old.faults self.new.faults) }

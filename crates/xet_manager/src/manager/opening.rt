@@ -1,12 +1,11 @@
 //! Opening a manager over a folder.
 
-ghost use Rattle.std.specs.Prelude.{◌≡◌, ◌≤◌, List, [], IfErr, IfOk, IsOkUnless, None, false, true};
+ghost use Rattle.std.specs.Prelude.{◌≡◌, ◌≤◌, ◌<◌, ◌^◌, [], IfErr, IfOk, IsOkUnless, None, false, length, string_bytes, true};
 ghost use Rattle.xet_manager.specs.Manager.{IsOpened, IsUnopened, IsUnscanned, ScansFolder, manager_state};
 ghost use Rattle.xet_shard.specs.Held.{nothing};
 ghost use Rattle.xet_shard_registration.specs.Refreshing.{RegistersDirectory};
-ghost use Rattle.xet_shard_registration.specs.Registering.{IsRegistrationError};
+ghost use Rattle.xet_shard_registration.specs.Registering.{IsGrown, IsRegistrationError};
 ghost use Rattle.xet_shard_registry.specs.Collections.{IsRegistryOf};
-ghost use Rattle.xet_shard_registry.specs.Registered.{Registered};
 
 use crate::manager::ShardFileManager;
 use crate::room::Room;
@@ -25,17 +24,18 @@ impl<D: Disk> ShardFileManager<D> {
     pub fn new_in_session_directory(
         alloc: Global,
         disk: D,
-        directory: &str,
+        directory: String,
         settings: ManagerSettings,
         now: u64,
         scan: bool,
     ) -> Result<ShardFileManager<D>, Refused<D>>
-        ensures opened { IfOk result (IsOpened (D.tells disk) (D.faults disk) directory.now settings now) }
+        ensures opened { IfOk result (IsOpened (D.tells disk) (D.faults disk) (string_bytes directory) settings now) }
         ensures scanned { D.tells disk ≡ true → scan ≡ true → IfOk result (ScansFolder (D.files disk) false 0) }
         ensures unscanned { scan ≡ false → IfOk result (λ m. IsRegistryOf [] m.registry) }
-        ensures some { IfOk result (λ m. (shards : List Registered) × IsRegistryOf shards m.registry) }
+        ensures grown { IfOk result (λ m. IsGrown settings.index_cap m.registry) }
+        ensures few { IfOk result (λ m. length m.registry.files < 2 ^ 32) }
         ensures files { D.tells disk ≡ true → IfOk result (λ m. m.files ≡ D.files disk) }
-        ensures refused { D.tells disk ≡ true → IfErr result (λ r. IsUnopened settings.index_cap (D.files disk) (D.files r.disk) directory.now false 0 settings.buffer now r.error) }
+        ensures refused { D.tells disk ≡ true → IfErr result (λ r. IsUnopened settings.index_cap (D.files disk) (D.files r.disk) (string_bytes directory) false 0 settings.buffer now r.error) }
         ensures memory { scan ≡ false → IfErr result (λ r. r.error ≡ StoreError.OutOfMemory) }
         ensures reason { IfErr result (λ r. IsRegistrationError (D.faults disk) (D.faults r.disk) r.error) }
         ensures disk { IfErr result (λ r. (D.tells r.disk ≡ D.tells disk) × (r.name ≡ None)) }
@@ -68,14 +68,15 @@ impl<D: Disk> ShardFileManager<D> {
     pub fn new_in_cache_directory(
         alloc: Global,
         disk: D,
-        directory: &str,
+        directory: String,
         settings: ManagerSettings,
         now: u64,
     ) -> Result<ShardFileManager<D>, Refused<D>>
-        ensures opened { IfOk result (IsOpened (D.tells disk) (D.faults disk) directory.now settings now) }
+        ensures opened { IfOk result (IsOpened (D.tells disk) (D.faults disk) (string_bytes directory) settings now) }
         ensures scanned { D.tells disk ≡ true → IfOk result (ScansFolder (D.files disk) true settings.cache_limit) }
-        ensures some { IfOk result (λ m. (shards : List Registered) × IsRegistryOf shards m.registry) }
-        ensures refused { D.tells disk ≡ true → IfErr result (λ r. IsUnopened settings.index_cap (D.files disk) (D.files r.disk) directory.now true settings.cache_limit settings.buffer now r.error) }
+        ensures grown { IfOk result (λ m. IsGrown settings.index_cap m.registry) }
+        ensures few { IfOk result (λ m. length m.registry.files < 2 ^ 32) }
+        ensures refused { D.tells disk ≡ true → IfErr result (λ r. IsUnopened settings.index_cap (D.files disk) (D.files r.disk) (string_bytes directory) true settings.cache_limit settings.buffer now r.error) }
         ensures reason { IfErr result (λ r. IsRegistrationError (D.faults disk) (D.faults r.disk) r.error) }
         ensures disk { IfErr result (λ r. (D.tells r.disk ≡ D.tells disk) × (r.name ≡ None)) }
         ensures later { IfErr result (λ r. D.faults disk ≤ D.faults r.disk) }
@@ -134,7 +135,8 @@ impl<D: Disk> ShardFileManager<D> {
         ensures refused { IfErr result (λ r. IsRegistrationError self.faults (D.faults r.disk) r.error) }
         ensures disk { IfErr result (λ r. (D.tells r.disk ≡ self.tells) × (r.name ≡ None)) }
         ensures kept { self.tells ≡ true → prune_expired ≡ false → prune_to ≡ 0 → IfErr result (λ r. D.files r.disk ≡ self.files) }
-        ensures grows { IsRegistryOf [] self.registry → IfOk result (λ m. (shards : List Registered) × IsRegistryOf shards m.registry) }
+        ensures grown { IsRegistryOf [] self.registry → IfOk result (λ m. IsGrown self.settings.index_cap m.registry) }
+        ensures few { IsRegistryOf [] self.registry → IfOk result (λ m. length m.registry.files < 2 ^ 32) }
         ensures unscanned { self.tells ≡ true → IsRegistryOf [] self.registry → IfErr result (λ r. IsUnscanned self.settings.index_cap self.files (D.files r.disk) self.folder prune_expired prune_to self.settings.buffer now r.error) }
         ensures counted { IfErr result (λ r. self.faults ≤ D.faults r.disk) }
     {
@@ -150,14 +152,13 @@ impl<D: Disk> ShardFileManager<D> {
 }
 
 /// The text of a folder's path, and a registry without shards.
-fn empty_parts(alloc: Global, directory: &str) -> Result<(Text, ShardRegistry), StoreError>
-    ensures folder { IfOk result (λ parts. parts.0 ≡ directory.now) }
+fn empty_parts(alloc: Global, directory: String) -> Result<(Text, ShardRegistry), StoreError>
+    ensures folder { IfOk result (λ parts. parts.0 ≡ string_bytes directory) }
     ensures empty { IfOk result (λ parts. IsRegistryOf [] parts.1) }
     ensures memory { IsOkUnless result StoreError.OutOfMemory }
 {
-    let folder = Text::new(String::from_str(alloc, directory)?);
     match ShardRegistry::new(alloc) {
-        Ok(registry) => Ok((folder, registry)),
+        Ok(registry) => Ok((Text::new(directory), registry)),
         Err(error) => Err(error),
     }
 }

@@ -1,14 +1,14 @@
 //! Registration of shards with a manager.
 #![tactic(auto, using(crate::proofs::Rooms::none_due))]
 
-ghost use Rattle.std.specs.Prelude.{◌≡◌, ◌≤◌, ◌++◌, ◌⊎◌, [], List, Err, IfErr, IfOk, IsOkUnless, OnErr, OnOk, false, string_bytes, true};
+ghost use Rattle.std.specs.Prelude.{◌≡◌, ◌≤◌, ◌<◌, ◌^◌, ◌⊎◌, [], List, Err, IfErr, IfOk, IsOkUnless, OnErr, OnOk, false, length, true};
 ghost use Rattle.xet_shard.specs.Union.{ShardRecords};
 ghost use Rattle.xet_shard_directory.specs.Answers.{GivesUnlessDisk};
-ghost use Rattle.xet_shard_directory.specs.Writing.{MayAddShard};
+ghost use Rattle.xet_shard_directory.specs.Writing.{MayAddShard, path_of};
 ghost use Rattle.xet_shard_directory.specs.declared.shard_file.MDBShardFile.{MDBShardFile};
 ghost use Rattle.xet_shard_flush.specs.Importing.{Imports, IsImportError, KeepsFiles, import_check};
 ghost use Rattle.xet_shard_registration.specs.Refreshing.{IsUnloadedAmong, IsUnloadedDirectory, RegistersDirectory, RegistersNewest, RegistersPaths, StopsAmong, StopsInDirectory, StopsInPaths};
-ghost use Rattle.xet_shard_registration.specs.Registering.{AddsDue, AddsFirst, IsRegistrationError, RegistersAll, due, newest_first, registered_all};
+ghost use Rattle.xet_shard_registration.specs.Registering.{AddsDue, AddsFirst, Grows, IsFullIfTooLarge, IsGrown, IsRegistrationError, RegistersAll, due, newest_first, registered_all};
 ghost use Rattle.xet_shard_registry.specs.Collections.{IsRegistryOf};
 ghost use Rattle.xet_shard_registry.specs.Registered.{Registered};
 
@@ -30,10 +30,12 @@ impl<D: Disk> ShardFileManager<D> {
     pub fn register_shards(&mut self, files: &[MDBShardFile]) -> Result<(), StoreError>
         ensures registered { self.old.tells ≡ true → OnOk result (RegistersNewest self.old.settings.index_cap self.old.files files.now self.old.registry self.new.registry) }
         ensures stopped { self.old.tells ≡ true → IfErr result (StopsAmong self.old.settings.index_cap self.old.files files.now self.old.registry self.new.registry) }
-        // Also on a disk that is not observable: which files are registered, and that registered shards stay, in order.
+        // Also on a disk that is not observable: which files are registered, after those that were and in which order.
         ensures due { OnOk result (AddsDue (newest_first files.now) self.old.registry self.new.registry) }
         ensures front { OnErr result (AddsFirst (newest_first files.now) self.old.registry self.new.registry) }
-        ensures grows { (shards : List Registered) → IsRegistryOf shards self.old.registry → (more : List Registered) × IsRegistryOf (shards ++ more) self.new.registry }
+        ensures grows { Grows self.old.settings.index_cap self.old.registry self.new.registry }
+        ensures few { length self.old.registry.files < 2 ^ 32 → length self.new.registry.files < 2 ^ 32 }
+        ensures full { IfErr result (IsFullIfTooLarge self.new.registry) }
         ensures rest { self.new ≡ record self.old { registry = self.new.registry; faults = self.new.faults; room = 0 } }
         ensures later { self.old.faults ≤ self.new.faults }
         ensures reason { IfErr result (IsRegistrationError self.old.faults self.new.faults) }
@@ -54,7 +56,9 @@ impl<D: Disk> ShardFileManager<D> {
     pub fn register_shards_by_path(&mut self, paths: &[Text], now: u64) -> Result<(), StoreError>
         ensures registered { self.old.tells ≡ true → OnOk result (RegistersPaths self.old.settings.index_cap self.old.files now paths.now self.old.registry self.new.registry) }
         ensures stopped { self.old.tells ≡ true → IfErr result (λ e. (IsUnloadedAmong self.old.files now paths.now e × (self.new.registry ≡ self.old.registry)) ⊎ StopsInPaths self.old.settings.index_cap self.old.files now paths.now self.old.registry self.new.registry e) }
-        ensures grows { (shards : List Registered) → IsRegistryOf shards self.old.registry → (more : List Registered) × IsRegistryOf (shards ++ more) self.new.registry }
+        ensures grows { Grows self.old.settings.index_cap self.old.registry self.new.registry }
+        ensures few { length self.old.registry.files < 2 ^ 32 → length self.new.registry.files < 2 ^ 32 }
+        ensures full { IfErr result (IsFullIfTooLarge self.new.registry) }
         ensures done { OnOk result (self.new ≡ record self.old { registry = self.new.registry; faults = self.new.faults; moment = now; room = 0 }) }
         ensures refused { OnErr result (self.new ≡ record self.old { registry = self.new.registry; faults = self.new.faults; room = 0 }) }
         ensures later { self.old.faults ≤ self.new.faults }
@@ -89,7 +93,9 @@ impl<D: Disk> ShardFileManager<D> {
         ensures stopped { self.old.tells ≡ true → IfErr result (λ e. IsUnloadedDirectory self.old.files self.new.files self.old.folder prune_expired prune_to self.old.settings.buffer now self.old.registry self.new.registry e
             ⊎ StopsInDirectory self.old.settings.index_cap self.old.files self.new.files self.old.folder prune_expired prune_to self.old.settings.buffer now self.old.registry self.new.registry e) }
         ensures unchanged { self.old.tells ≡ true → prune_expired ≡ false → prune_to ≡ 0 → self.new.files ≡ self.old.files }
-        ensures grows { (shards : List Registered) → IsRegistryOf shards self.old.registry → (more : List Registered) × IsRegistryOf (shards ++ more) self.new.registry }
+        ensures grows { Grows self.old.settings.index_cap self.old.registry self.new.registry }
+        ensures few { length self.old.registry.files < 2 ^ 32 → length self.new.registry.files < 2 ^ 32 }
+        ensures full { IfErr result (IsFullIfTooLarge self.new.registry) }
         ensures done { OnOk result (self.new ≡ record self.old { files = self.new.files; registry = self.new.registry; faults = self.new.faults; moment = now; room = 0 }) }
         ensures refused { OnErr result (self.new ≡ record self.old { files = self.new.files; registry = self.new.registry; faults = self.new.faults; room = 0 }) }
         ensures later { self.old.faults ≤ self.new.faults }
@@ -115,13 +121,12 @@ impl<D: Disk> ShardFileManager<D> {
 
     /// Writes the bytes of a shard into the folder, durably, under the name of their digest, and registers the shard;
     /// if its hash is registered, it is only written. If a file of that name has these bytes, it is only made durable, and
-    /// keeps its modification time. Returns its path. Nothing is written if the header, the footer or the chunk lookup
-    /// table is malformed, or if 2^32 - 1 shards are registered and one more is due (`TooLarge(Shards)`). `OutOfMemory`
-    /// also if the path is that of a registered shard whose file has other bytes, or is gone and had another header or
-    /// footer: it is not replaced. After an error the same shards are registered; the file is as it was, or the write has
-    /// completed.
-    pub fn import_shard_from_bytes(&mut self, bytes: &[u8]) -> Result<String, StoreError>
-        ensures imported { IfOk result (λ path. Imports self.old.tells self.old.settings.index_cap self.old.files self.new.files self.old.folder bytes.now self.old.registry self.new.registry (string_bytes path)) }
+    /// keeps its modification time. Nothing is written if the header, the footer or the chunk lookup table is malformed, or
+    /// if 2^32 - 1 shards are registered and one more is due (`TooLarge(Shards)`). `OutOfMemory` also if the path is that of
+    /// a registered shard whose file has other bytes, or is gone and had another header or footer: it is not replaced. After
+    /// an error the same shards are registered; the file is as it was, or the write has completed.
+    pub fn import_shard_from_bytes(&mut self, bytes: &[u8]) -> Result<(), StoreError>
+        ensures imported { OnOk result (Imports self.old.tells self.old.settings.index_cap self.old.files self.new.files self.old.folder bytes.now self.old.registry self.new.registry (path_of self.old.folder bytes.now)) }
         ensures checked { GivesUnlessDisk (λ _. tt) result (import_check bytes.now self.old.registry) }
         ensures kept { OnErr result ((shards : List Registered) → IsRegistryOf shards self.old.registry → IsRegistryOf shards self.new.registry) }
         ensures refused { self.old.tells ≡ true → OnErr result (MayAddShard self.old.files self.new.files self.old.folder bytes.now) }
@@ -146,7 +151,8 @@ impl<D: Disk> ShardFileManager<D> {
     /// passed over. Errors are those of `register_shards`; after an error the registered shards are unchanged.
     pub fn replace_shards(&mut self, files: &[MDBShardFile]) -> Result<(), StoreError>
         ensures replaced { self.old.tells ≡ true → OnOk result ((records : MDBShardFile → ShardRecords) → RegistersAll self.old.settings.index_cap self.old.files records [] files.now self.new.registry) }
-        ensures some { OnOk result ((shards : List Registered) × IsRegistryOf shards self.new.registry) }
+        ensures grown { OnOk result (IsGrown self.old.settings.index_cap self.new.registry) }
+        ensures few { OnOk result (length self.new.registry.files < 2 ^ 32) }
         ensures due { OnOk result (self.new.registry.files ≡ due [] files.now) }
         ensures kept { OnErr result (self.new.registry ≡ self.old.registry) }
         ensures refused { self.old.tells ≡ true → IfErr result (λ e. (records : MDBShardFile → ShardRecords) → GivesUnlessDisk (λ (x : List Registered). x) (Err e) (registered_all self.old.settings.index_cap self.old.files records [] files.now)) }

@@ -35,7 +35,8 @@ fn left_on(
     settings: ManagerSettings,
     now: u64,
 ) -> Result<Left, StoreError> {
-    match ShardFileManager::new_in_cache_directory(alloc, disk, "a", settings, now) {
+    let folder = String::from_str(alloc, "a")?;
+    match ShardFileManager::new_in_cache_directory(alloc, disk, folder, settings, now) {
         Ok(manager) => left(alloc, manager),
         Err(refused) => Err(error_of(refused)),
     }

@@ -165,8 +165,16 @@ fn opened_again(alloc: Global, refused: Refused<MemoryDisk>) -> Result<Opened, S
 /// The same where the first listing fails; none if it is opened at once.
 fn opened_where_listing_fails(alloc: Global) -> Result<Option<Opened>, StoreError> {
     let fails = vec![in alloc; (Op::List, 0)]?;
+    let folder = String::from_str(alloc, "a")?;
     let disk = MemoryDisk::failing(alloc, fails);
-    match ShardFileManager::new_in_session_directory(alloc, disk, "a", settings(10_000), 0, true) {
+    match ShardFileManager::new_in_session_directory(
+        alloc,
+        disk,
+        folder,
+        settings(10_000),
+        0,
+        true,
+    ) {
         Ok(manager) => {
             release(manager);
             Ok(None)

@@ -8,9 +8,11 @@ use std::test::Fail;
 use xet_hash::{MerkleHash, Reason, StoreError, compute_data_hash};
 use xet_io::MemoryDisk;
 
-/// Whether the shard of these bytes is imported under its path.
+/// Whether the shard of these bytes is imported, and then the only one, under its path.
 fn is_imported(manager: &mut Manager, bytes: &[u8]) -> Result<bool, StoreError> {
-    Ok(manager.import_shard_from_bytes(bytes)?.as_str() == PATH)
+    manager.import_shard_from_bytes(bytes)?;
+    let shards = manager.registered_shard_list()?;
+    Ok(shards.len() == 1 && shards.iter().all(|shard| shard.path.as_str() == PATH))
 }
 
 /// What is seen of a manager: whether a flush writes nothing, the totals, and the run of `abc`.

@@ -10,6 +10,7 @@ use xet_manager::ShardFileManager;
 /// A manager over a folder that is a cache.
 fn cache_in(alloc: Global, folder: &str) -> Result<Manager, StoreError> {
     let disk = MemoryDisk::new(alloc);
+    let folder = String::from_str(alloc, folder)?;
     match ShardFileManager::new_in_cache_directory(alloc, disk, folder, settings(10_000), 0) {
         Ok(manager) => Ok(manager),
         Err(refused) => Err(error_of(refused)),

@@ -40,6 +40,7 @@ pub fn opened_in(
 ) -> Result<Manager, StoreError>
     ensures empty { IfOk result (λ m. m.pending ≡ nothing) }
 {
+    let folder = String::from_str(alloc, folder)?;
     match ShardFileManager::new_in_session_directory(alloc, disk, folder, settings, 0, scan) {
         Ok(manager) => Ok(manager),
         Err(refused) => Err(error_of(refused)),

@@ -19,6 +19,7 @@ use Rattle.xet_shard_format.specs.declared.record.MDBFileInfo.{MDBFileInfo}
 use Rattle.xet_steps.specs.Recorded.{RecordedState}
 use Rattle.xet_steps.specs.Steps.{Steps}
 use Rattle.xet_program.specs.declared.ending.Stop.{Stop}
+use Rattle.xet_program.specs.Allowed.{are_short}
 use Rattle.xet_program.specs.Answers.{AreNamed, AreSeparate}
 use Rattle.xet_program.specs.Lines.{files_of}
 use Rattle.xet_program.specs.internal.Parsing.{ForLines, Said}
@@ -40,12 +41,13 @@ AreOpened inputs_tell inputs tells left faults (name ∷ names) (s ∷ ss) =
 abbrev pub RecordsHash : List Entry → List ℕ → Type 0
 RecordsHash entries h = (pass : ℕ) × (file : MDBFileInfo) × (added : Bool) × IsAmong entries (Complete pass file added) × (file_record_hash file ≡ h)
 
--- The files of sources were cleaned in a session, in order, with these results. Each that is not empty is recorded by one of the
--- entries that were added, and nothing else is.
+-- The files of sources were cleaned in a session, in order, with these results. If all sources are observable, none is longer than
+-- a source may be. Each that is not empty is recorded by one of the entries that were added, and nothing else is.
 pub record AreCleaned {S : Type 0} (tells : S → Bool) (left : S → List ℕ) (sources : List S) (old new : RecordedState) (infos : List XetFileInfo) : Type 0 where
   pub files : List (List ℕ)
   pub each : EachTold tells left (λ bytes file. file ≡ bytes) sources files
   pub told : infos ≡ map (info_of old.store.limits) files
+  pub short : AllByRecursion (λ s. tells s ≡ true) sources → are_short old.store.limits files ≡ true
   pub entries : List Entry
   pub steps : Steps old new entries
   pub recorded : AllByRecursion (λ bytes. bytes ≢ [] → RecordsHash entries (hash_of_file old.store.limits bytes)) files
@@ -57,6 +59,7 @@ pub record IsCleaned (inputs_tell : Bool) (inputs : Named (List ℕ)) (names : L
   pub files : List (List ℕ)
   pub named : inputs_tell ≡ true → AreNamed inputs names files
   pub count : length files ≡ length names
+  pub short : inputs_tell ≡ true → are_short old.limits files ≡ true
   pub lines : text ≡ flat_map (file_line old.limits) files
   pub recorded : inputs_tell ≡ true → old.tells ≡ true → Records old.limits files old.opened new.files
   pub made : old.tells ≡ true → MakesIn old files new
@@ -66,6 +69,7 @@ pub record IsCleanText (inputs_tell : Bool) (inputs : Named (List ℕ)) (names :
   pub files : List (List ℕ)
   pub named : inputs_tell ≡ true → AreNamed inputs names files
   pub count : length files ≡ length names
+  pub short : inputs_tell ≡ true → are_short default_limits files ≡ true
   pub lines : text ≡ flat_map (file_line default_limits) files
   pub stored : inputs_tell ≡ true → tells ≡ true → AreStored default_limits files now old new
 

@@ -12,7 +12,7 @@ use Rattle.xet_hash.specs.declared.error.Place.TheVariants.{Source}
 use Rattle.xet_hash.specs.declared.error.StoreError.TheVariants.{FileNotFound, InvalidRange, Io, MalformedData}
 use Rattle.xet_hash.specs.declared.error.StoreError.TheVariants as error
 use Rattle.xet_folder.specs.Admission.{Refuses}
-use Rattle.xet_folder.specs.Contents.{HasContents, max_shards}
+use Rattle.xet_folder.specs.Contents.{HasTooMany, max_shards}
 use Rattle.xet_folder.specs.declared.contents.Contents.{Contents}
 use Rattle.xet_cut.specs.Chunking.{chunking}
 use Rattle.xet_cut.specs.declared.limits.LimitSettings.{LimitSettings}
@@ -29,7 +29,7 @@ use Rattle.xet_program.specs.Allowed.{are_short}
 use Rattle.xet_program.specs.Making.{both_files}
 use Rattle.xet_program.specs.Reasons.{AreApart, IsFull}
 use Rattle.xet_program.specs.Answers.{AreNamed, IsNoRange}
-use Rattle.xet_program.specs.Ending.{IsShardName, bad_shard_text}
+use Rattle.xet_program.specs.Ending.{CanOpen, IsShardName, bad_shard_text}
 use Rattle.xet_program.specs.internal.Parsing.{Said}
 
 -- the stop for an input that was not read
@@ -38,15 +38,26 @@ stop_of_unread unread.OutOfMemory = OutOfMemory
 stop_of_unread unread.Failed = Input
 stop_of_unread unread.TooLong = TooLarge
 
--- The stop for an error of the store. Opening, cleaning and flushing return no other errors without a shard's
--- name than these and out of memory (`IsFolderError`, `HasReason`, `IsFlushError`). Reading a good range of a file that was
--- just cleaned returns `FileNotFound` or `InvalidRange` only if digests collide; such a collision counts as out of memory.
+-- The stop for an error of the store. Opening, cleaning and flushing return no others without a shard's name than the first
+-- three, `MalformedData` and out of memory (`IsFolderError`, `HasReason`, `IsFlushError`). Reading a good range of a file that
+-- was just cleaned returns `FileNotFound` or `InvalidRange` only if digests collide; such a collision counts as out of memory.
 abbrev pub stop_of_error : StoreError → Stop
 stop_of_error (Io (Source i)) = Input
 stop_of_error (Io place) = Disk
 stop_of_error (error.TooLarge what) = TooLarge
 stop_of_error (MalformedData reason) = Malformed
-stop_of_error _ = OutOfMemory
+stop_of_error error.UnexpectedEof = Malformed
+stop_of_error error.ChunkHeaderParse = Malformed
+stop_of_error error.HashMismatch = Malformed
+stop_of_error (error.CompressionError scheme) = Malformed
+stop_of_error (error.InvalidShard hash reason) = Malformed
+stop_of_error error.OutOfMemory = OutOfMemory
+stop_of_error FileNotFound = OutOfMemory
+stop_of_error InvalidRange = OutOfMemory
+stop_of_error error.InvalidArguments = OutOfMemory
+stop_of_error error.TruncatedHashCollision = OutOfMemory
+stop_of_error error.BadFilename = OutOfMemory
+stop_of_error (error.BadLimits field) = OutOfMemory
 
 -- the stop for a folder that was not opened, with the name of the shard if there is one
 abbrev pub stop_of_refusal : StoreError → Option (List ℕ) → Stop
@@ -152,13 +163,21 @@ session_causes old new said = record no_causes {
   malformed = old.store.tells ≡ true → IsApartFor old.store.limits new said.files → ⊥;
 }
 
--- While files are stored in a folder at a time, whose disk has the files `new` then: as in a session; and, if the disk is
--- observable, a shard only if it is the first with which a check fails.
+-- The folder of the store can be opened at a time, if the disk is observable, and P holds of its contents.
+abbrev pub ForValid : Bool → Files → ℕ → (Contents → Type 0) → Type 0
+ForValid tells files now P = (contents : Contents) × (tells ≡ true → CanOpen files now contents) × P contents
+
+-- If the disk is observable: the folder has too many shards; or it can be opened, and is full on the disk with the files `new`.
+abbrev pub IsOverfull : Bool → ℕ → Files → Files → Type 0
+IsOverfull tells now files new = (tells ≡ true → HasTooMany files store_folder now) ⊎ ForValid tells files now (λ contents. tells ≡ true → IsFull new now)
+
+-- While files are stored in a folder at a time, whose disk has the files `new` then: as in a session, once the folder was opened;
+-- and, if the disk is observable, a shard only if it is the first with which a check fails.
 abbrev pub storing_causes : Bool → LimitSettings → Said → ℕ → Files → Files → Causes
 storing_causes tells s said now files new = record no_causes {
   disk = Unit {0};
-  too_large = (are_short s said.files ≡ false) ⊎ (tells ≡ true → IsFull new now);
-  malformed = tells ≡ true → AreApart new now s said.files → ⊥;
+  too_large = (are_short s said.files ≡ false) ⊎ IsOverfull tells now files new;
+  malformed = ForValid tells files now (λ contents. tells ≡ true → AreApart new now s said.files → ⊥);
   bad_shard = λ name. IsShardName name × (tells ≡ true → (e : StoreError) × Refuses files store_folder now e name);
 }
 
@@ -167,12 +186,13 @@ storing_causes tells s said now files new = record no_causes {
 abbrev pub opening_causes : Bool → Named (List ℕ) → List (List ℕ) → Causes
 opening_causes tells inputs names = record no_causes { input = Unit {0}; not_found = tells ≡ true → Any (λ name. get inputs name ≡ None) names }
 
--- while files are cleaned by name in a session, from `old` to `new`: besides, as in a session
+-- while files are cleaned by name in a session, from `old` to `new`: besides, as in a session, once all names were found
 abbrev pub naming_causes : Bool → Named (List ℕ) → List (List ℕ) → RecordedState → RecordedState → Causes
 naming_causes tells inputs names old new = record (opening_causes tells inputs names) {
-  too_large = (tells ≡ true → (files : List (List ℕ)) × AreNamed inputs names files × (are_short old.store.limits files ≡ false)) ⊎ IsFullAt new;
+  too_large = (tells ≡ true → (files : List (List ℕ)) × AreNamed inputs names files × (are_short old.store.limits files ≡ false))
+      ⊎ ((tells ≡ true → (files : List (List ℕ)) × AreNamed inputs names files) × IsFullAt new);
   disk = Unit {0};
-  malformed = tells ≡ true → old.store.tells ≡ true → (files : List (List ℕ)) × AreNamed inputs names files × (IsApartFor old.store.limits new files → ⊥);
+  malformed = tells ≡ true → (files : List (List ℕ)) × AreNamed inputs names files × (old.store.tells ≡ true → IsApartFor old.store.limits new files → ⊥);
 }
 
 -- While sources are cleaned in a session, from `old` to `new`: a failure of a source or of the disk; too large only if a source
@@ -185,16 +205,12 @@ cleaning_causes tells left faults sources now old new = record no_causes {
   malformed = old.store.tells ≡ true → AllByRecursion (λ s. tells s ≡ true) sources → AreApartUnder new (chunkings left old.store.limits sources) → NoneEnds (chunkings left old.store.limits sources) → ⊥;
 }
 
--- The folder of the store is valid at a time, if the disk is observable, and P holds of its contents.
-abbrev pub ForValid : Bool → Files → ℕ → (Contents → Type 0) → Type 0
-ForValid tells files now P = (contents : Contents) × (tells ≡ true → HasContents files store_folder now contents) × P contents
-
--- while a folder is opened at a time: a failure of the disk; and, if the disk is observable, too large only if the folder is
--- full, and a shard only if it is the first with which a check fails
+-- while a folder is opened at a time: a failure of the disk; and, if the disk is observable, too large only if the folder has
+-- too many shards, and a shard only if it is the first with which a check fails
 abbrev pub folder_causes : Bool → ℕ → Files → Causes
 folder_causes tells now files = record no_causes {
   disk = Unit {0};
-  too_large = tells ≡ true → IsFull files now;
+  too_large = tells ≡ true → HasTooMany files store_folder now;
   bad_shard = λ name. IsShardName name × (tells ≡ true → (e : StoreError) × Refuses files store_folder now e name);
 }
 
@@ -207,19 +223,22 @@ reading_range_causes tells now files h from to = record (folder_causes tells now
 }
 
 -- While files are cleaned by name in a folder, whose disk has the files `new` then: besides, an input fails only once the folder
--- was found valid; malformed only if the disk is not observable or there are collisions.
+-- was opened; too large because the folder is full, and malformed, only once all names were found too.
 abbrev pub cleaning_store_causes : Bool → Named (List ℕ) → List (List ℕ) → Bool → ℕ → Files → Files → Causes
 cleaning_store_causes inputs_tell inputs names tells now files new = record (folder_causes tells now files) {
   input = ForValid tells files now (λ contents. Unit {0});
   not_found = ForValid tells files now (λ contents. inputs_tell ≡ true → Any (λ name. get inputs name ≡ None) names);
-  too_large = ForValid tells files now (λ contents. inputs_tell ≡ true → (found : List (List ℕ)) × AreNamed inputs names found × (are_short default_limits found ≡ false)) ⊎ (tells ≡ true → IsFull new now);
-  malformed = inputs_tell ≡ true → tells ≡ true → (found : List (List ℕ)) × AreNamed inputs names found × (AreApart new now default_limits found → ⊥);
+  too_large = ForValid tells files now (λ contents. inputs_tell ≡ true → (found : List (List ℕ)) × AreNamed inputs names found × (are_short default_limits found ≡ false))
+      ⊎ (tells ≡ true → HasTooMany files store_folder now)
+      ⊎ ForValid tells files now (λ contents. (inputs_tell ≡ true → (found : List (List ℕ)) × AreNamed inputs names found) × (tells ≡ true → IsFull new now));
+  malformed = ForValid tells files now (λ contents. inputs_tell ≡ true → (found : List (List ℕ)) × AreNamed inputs names found × (tells ≡ true → AreApart new now default_limits found → ⊥));
 }
 
 -- While a file of these bytes and the same with one byte inserted are stored in a folder, whose disk has the files `new` then:
--- besides, too large only if the folder is full then; malformed only if the disk is not observable or there are collisions.
+-- besides, too large also if the folder could be opened and is full then; malformed only once it was opened, if the disk is not
+-- observable or there are collisions.
 abbrev pub making_causes : Bool → ℕ → Files → Files → List ℕ → Causes
 making_causes tells now files new bytes = record (folder_causes tells now files) {
-  too_large = tells ≡ true → IsFull new now;
-  malformed = tells ≡ true → AreApart new now default_limits (both_files bytes) → ⊥;
+  too_large = IsOverfull tells now files new;
+  malformed = ForValid tells files now (λ contents. tells ≡ true → AreApart new now default_limits (both_files bytes) → ⊥);
 }

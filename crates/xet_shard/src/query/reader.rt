@@ -1,8 +1,9 @@
 //! Queries to a shard behind a reader: the file of a hash, and the run of a query.
 
-ghost use Rattle.std.specs.Prelude.{◌≡◌, ◌==◌, ◌∷◌, [], true, IfErr, IsErrOf, filter, length, IfOk, nat_le, nat_lt};
+ghost use Rattle.std.specs.Prelude.{◌≡◌, ◌==◌, ◌∷◌, [], true, IfErr, IfSome, IsErrOf, filter, length, IfOk, nat_le, nat_lt};
 ghost use Rattle.xet_shard.specs.Bisection.{AnswersAt};
 ghost use Rattle.xet_shard.specs.Queries.{IsFileError, file_in, first_file, found_file, found_run, rows_of, run_in, run_of_word, direct_run, chunk_table, file_table, query_word, xorb_table};
+ghost use Rattle.xet_shard.specs.RunForms.{IsRunFor};
 ghost use Rattle.xet_codec.specs.Parsing.{GivesUnlessFault};
 ghost use Rattle.xet_shard_format.specs.Reading.{IsShardError};
 ghost use Rattle.xet_shard_format.specs.Records.{first_word};
@@ -56,6 +57,7 @@ impl MDBShardInfo {
         query: &[MerkleHash],
     ) -> Result<Option<(usize, FileDataSequenceEntry)>, StoreError>
         ensures exact { R.tells reader.old ≡ true → AnswersAt (λ i. nat_le i.0 (query_word self.now.metadata query.now)) (chunk_table self.now.metadata (R.bytes reader.old)) (λ run. run) result (λ index. found_run self.now.metadata query.now index (R.bytes reader.old)) }
+        ensures shape { IfOk result (λ run. IfSome run (IsRunFor query.now)) }
         ensures errors { IfErr result IsShardError }
         ensures frame { ReadFrom R.bytes R.tells R.faults R.lent reader.old reader.new (IsErrOf result (StoreError.Io Place.Input)) }
     {
@@ -83,6 +85,7 @@ impl MDBShardInfo {
         place: u32,
     ) -> Result<Option<(usize, FileDataSequenceEntry)>, StoreError>
         ensures exact { R.tells reader.old ≡ true → AnswersAt (λ i. nat_lt i.1 row) (xorb_table self.now.metadata (R.bytes reader.old)) (λ run. run) result (λ index. direct_run self.now.metadata query.now row place index (R.bytes reader.old)) }
+        ensures shape { IfOk result (λ run. IfSome run (IsRunFor query.now)) }
         ensures errors { IfErr result IsShardError }
         ensures frame { ReadFrom R.bytes R.tells R.faults R.lent reader.old reader.new (IsErrOf result (StoreError.Io Place.Input)) }
     {
@@ -109,6 +112,7 @@ impl MDBShardInfo {
         place: u32,
     ) -> Result<Option<(usize, FileDataSequenceEntry)>, StoreError>
         ensures exact { R.tells reader.old ≡ true → GivesUnlessFault (λ run. run) result (run_in self.now.metadata query.now row place (R.bytes reader.old)) }
+        ensures shape { IfOk result (λ run. IfSome run (IsRunFor query.now)) }
         ensures errors { IfErr result IsShardError }
         ensures frame { ReadFrom R.bytes R.tells R.faults R.lent reader.old reader.new (IsErrOf result (StoreError.Io Place.Input)) }
     {
@@ -176,6 +180,7 @@ fn run_of_word<R: ReadAt>(
     word: u64,
 ) -> Result<Option<(usize, FileDataSequenceEntry)>, StoreError>
     ensures exact { R.tells reader.old ≡ true → AnswersAt (λ i. nat_le i.0 word) (chunk_table info.now.metadata (R.bytes reader.old)) (λ x. x) result (λ index. run_of_word info.now.metadata query.now word index (R.bytes reader.old)) }
+    ensures shape { IfOk result (λ run. IfSome run (IsRunFor query.now)) }
     ensures errors { IfErr result IsShardError }
     ensures frame { ReadFrom R.bytes R.tells R.faults R.lent reader.old reader.new (IsErrOf result (StoreError.Io Place.Input)) }
 {

@@ -1,10 +1,11 @@
 //! The run of a query in a xorb behind a reader, from the rows that it needs.
 
-ghost use Rattle.std.specs.Prelude.{◌≡◌, ◌≤◌, ◌<◌, ◌+◌, ◌-◌, ◌*◌, ◌^◌, true, drop, length, map, IfErr, IfOk, IsErrOf};
+ghost use Rattle.std.specs.Prelude.{◌≡◌, ◌≤◌, ◌<◌, ◌+◌, ◌-◌, ◌*◌, ◌^◌, true, drop, length, map, IfErr, IfOk, IfSome, IsErrOf};
 ghost use Rattle.xet_shard.specs.Queries.{kept_hash, read_in_row, run_in};
 ghost use Rattle.xet_codec.specs.Parsing.{GivesUnlessFault};
 ghost use Rattle.xet_shard_format.specs.Reading.{IsShardError};
 ghost use Rattle.xet_shard_format.specs.Rows.{row_of, rows_in};
+ghost use Rattle.xet_shard.specs.RunForms.{IsRunFor};
 ghost use Rattle.xet_shard.specs.Runs.{agreed, end_of_chunk, run_after, run_of};
 ghost use Rattle.xet_io.specs.Frame.{ReadFrom};
 
@@ -33,6 +34,7 @@ pub fn run_in<R: ReadAt>(
     place: u32,
 ) -> Result<Option<(usize, FileDataSequenceEntry)>, StoreError>
     ensures exact { R.tells reader.old ≡ true → GivesUnlessFault (λ x. x) result (run_in f.now query.now row place (R.bytes reader.old)) }
+    ensures shape { IfOk result (λ run. IfSome run (IsRunFor query.now)) }
     ensures errors { IfErr result IsShardError }
     ensures frame { ReadFrom R.bytes R.tells R.faults R.lent reader.old reader.new (IsErrOf result (StoreError.Io Place.Input)) }
 {
@@ -59,6 +61,7 @@ fn run_from<R: ReadAt>(
     requires few { count < 2 ^ 32 }
     requires inside { at + 48 * count < 2 ^ 64 }
     ensures exact { R.tells reader.old ≡ true → at + 48 * count ≤ length (R.bytes reader.old) → GivesUnlessFault (λ x. x) result (read_in_row (run_after (map (kept_hash key.now) query.now) place) at count 0 (R.bytes reader.old)) }
+    ensures shape { IfOk result (λ run. IfSome run (IsRunFor query.now)) }
     ensures errors { IfErr result IsShardError }
     ensures frame { ReadFrom R.bytes R.tells R.faults R.lent reader.old reader.new (IsErrOf result (StoreError.Io Place.Input)) }
 {
@@ -89,6 +92,7 @@ fn run_of<R: ReadAt>(
     requires some { place < head.now.b }
     requires inside { at + 48 * (head.now.b - place) < 2 ^ 64 }
     ensures exact { R.tells reader.old ≡ true → at + 48 * (head.now.b - place) ≤ length (R.bytes reader.old) → GivesUnlessFault (λ x. x) result (run_of (map (kept_hash key.now) query.now) place head.now (rows_in (head.now.b - place) (drop at (R.bytes reader.old)))) }
+    ensures shape { IfOk result (λ run. IfSome run (IsRunFor query.now)) }
     ensures errors { IfErr result IsShardError }
     ensures frame { ReadFrom R.bytes R.tells R.faults R.lent reader.old reader.new (IsErrOf result (StoreError.Io Place.Input)) }
 {
@@ -124,6 +128,7 @@ fn agreed<R: ReadAt>(
     ensures exact { R.tells reader.old ≡ true → at + 48 * count ≤ length (R.bytes reader.old) → GivesUnlessFault (λ x. x) result (agreed (map (kept_hash key.now) query.now) end from (rows_in count (drop at (R.bytes reader.old)))) }
     ensures within { IfOk result (λ n. n.0 ≤ count) }
     ensures behind { IfOk result (λ n. from ≤ n.1) }
+    ensures hashes { IfOk result (λ n. n.0 ≤ length query.now) }
     ensures errors { IfErr result IsShardError }
     ensures frame { ReadFrom R.bytes R.tells R.faults R.lent reader.old reader.new (IsErrOf result (StoreError.Io Place.Input)) }
 {
@@ -173,6 +178,7 @@ fn agreed_rows(
     requires { 48 * count ≤ length bytes.now }
     ensures exact { result ≡ agreed (map (kept_hash key.now) query.now) end from (rows_in count bytes.now) }
     ensures within { IfOk result (λ n. n.0 ≤ count) }
+    ensures hashes { IfOk result (λ n. n.0 ≤ length query.now) }
     ensures behind { IfOk result (λ n. from ≤ n.1) }
     ensures refused { IfErr result (λ e. e ≡ StoreError.MalformedData Reason.SectionEntry) }
 {

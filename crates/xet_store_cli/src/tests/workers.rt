@@ -38,6 +38,28 @@ fn lines(alloc: Global) -> Result<String, Refusal> {
     Ok(input)
 }
 
+/// The lines of 300 files: `abc`, and 299 of two bytes.
+fn short_lines(alloc: Global) -> Result<String, Refusal> {
+    let mut input = String::from_str(alloc, "file 616263\n")?;
+    for number in 1000..1299u64 {
+        let line = format!(in alloc; "file {number}\n")?;
+        input.push_str(line.as_str())?;
+    }
+    Ok(input)
+}
+
+#[test]
+fn as_many_workers_as_there_may_be(rt: HostRuntime) -> Result<(), Fail> {
+    let alloc = rt.alloc();
+    let input = short_lines(alloc)?;
+    let due = run_once(&rt, alloc, "pack 512 zero", input.as_str())?;
+    let found = run_once(&rt, alloc, "pack 512 zero 256", input.as_str())?;
+    assert_eq!(rt; (found.0.as_str(), found.1), (due.0.as_str(), 0));
+    assert_eq!(rt; found.0.as_str().lines().count(), 300);
+    assert!(rt; found.0.as_str().starts_with(ABC));
+    Ok(())
+}
+
 #[test]
 fn workers_change_no_line(rt: HostRuntime) -> Result<(), Fail> {
     let alloc = rt.alloc();

@@ -1,4 +1,4 @@
-use Rattle.std.proofs.Common.{◌+◌, ◌*◌, inl, inr, List, ℕ, length, ap, subst, sym, arith}
+use Rattle.std.proofs.Common.{◌+◌, ◌*◌, inl, inr, List, ℕ, length, refl, ap, subst, sym, arith}
 use Rattle.std.proofs.lemmas.Result.{IfErr-weaker, on_ok_weaker}
 use Rattle.xet_base.specs.theorems.Exits.{exit_with}
 use Rattle.xet_dedup_queries.specs.Registering.{IsDue}
@@ -6,7 +6,7 @@ use Rattle.xet_steps.specs.Holders.{xorb_limits}
 use Rattle.xet_steps.specs.Stepping.{SawRegister}
 use Rattle.xet_steps.specs.theorems.Following.{follows_nothing}
 use Rattle.xet_xorb.specs.Raw.{raw_leaves}
-use Rattle.xet_clean.specs.Closing.{IsClosingError, IsUnclosed}
+use Rattle.xet_clean.specs.Closing.{IsClosingError, IsUnclosed, RegistersAtMost}
 use Rattle.xet_clean.proofs.Completing.{WasRegistered, closes_either, error_either, forms_are, leaves_of_made, most_either, most_refused, new_xorb, records_of, unclosed_nothing, unclosed_refused}
 use Rattle.xet_clean.specs.theorems.Counting.{at_most_more, at_most_nothing}
 use Rattle.xet_clean.proofs.aggregate.close.Goals as goal
@@ -22,8 +22,8 @@ returns-in_err-xorb-clause-few g c =
 
 pub returns-in_err-xorb-clause-refused : goal.returns-in_err-xorb-clause-refused
 returns-in_err-xorb-clause-refused g c =
-    exit_with (IsUnclosed c.args.aggregate c.args.next.now (g.S.Stepping.holder c.args.steps.now) (g.S.Stepping.holder c.args.steps.now)) _ _ c.from_residual.ensures.1
-    (subst (IsUnclosed c.args.aggregate c.args.next.now (g.S.Stepping.holder c.args.steps.now) (g.S.Stepping.holder c.args.steps.now)) (sym c.in_err-xorb.ensures.memory) (unclosed_nothing c.args.aggregate c.args.next.now (g.S.Stepping.holder c.args.steps.now)))
+    exit_with (IsUnclosed (RegistersAtMost c.args.aggregate c.args.next.now) c.args.aggregate c.args.next.now (g.S.Stepping.holder c.args.steps.now) (g.S.Stepping.holder c.args.steps.now)) _ _ c.from_residual.ensures.1
+    (subst (IsUnclosed (RegistersAtMost c.args.aggregate c.args.next.now) c.args.aggregate c.args.next.now (g.S.Stepping.holder c.args.steps.now) (g.S.Stepping.holder c.args.steps.now)) (sym c.in_err-xorb.ensures.memory) (unclosed_nothing (RegistersAtMost c.args.aggregate c.args.next.now) (inl refl) c.args.aggregate c.args.next.now (g.S.Stepping.holder c.args.steps.now)))
 
 pub register-requires-clause-new : goal.register-requires-clause-new
 register-requires-clause-new g c =
@@ -43,7 +43,7 @@ returns-in_err-_added-clause-few g c = most_refused c.args.aggregate c.args.next
 
 pub returns-in_err-_added-clause-refused : goal.returns-in_err-_added-clause-refused
 returns-in_err-_added-clause-refused g c =
-    exit_with (IsUnclosed c.args.aggregate c.args.next.now (g.S.Stepping.holder c.args.steps.now) (g.S.Stepping.holder c.register.new.self)) _ _ c.from_residual-in_err-_added.ensures.1
+    exit_with (IsUnclosed (RegistersAtMost c.args.aggregate c.args.next.now) c.args.aggregate c.args.next.now (g.S.Stepping.holder c.args.steps.now) (g.S.Stepping.holder c.register.new.self)) _ _ c.from_residual-in_err-_added.ensures.1
     (unclosed_refused c.args.aggregate c.args.next.now c.in_ok-xorb.files.items c.in_ok-xorb.xorb c.in_ok-xorb.ensures.xorb c.in_ok-xorb.ensures.files (g.S.Stepping.holder c.args.steps.now) (g.S.Stepping.holder c.register.new.self) _ (c.has_no_chunks-is_empty.ensures.some c.if-not-is_empty.true) c.in_err-_added.ensures.refused)
 
 pub complete_all-requires : goal.complete_all-requires
@@ -99,5 +99,5 @@ returns-clause-refused g c =
       )
       | else-not-is_empty w ↦ inl (c.has_no_chunks-is_empty.ensures.none w.if-not-is_empty.false, ap g.S.Stepping.holder w.steps-is)
     ] in
-    IfErr-weaker c.complete_all.result (IsClosingError (records_of c.in_ok-xorb.files.items) (g.S.Stepping.holder c.if-not-is_empty.steps) (g.S.Stepping.holder c.complete_all.new.steps)) (IsUnclosed c.args.aggregate c.args.next.now (g.S.Stepping.holder c.args.steps.now) (g.S.Stepping.holder c.complete_all.new.steps))
+    IfErr-weaker c.complete_all.result (IsClosingError (records_of c.in_ok-xorb.files.items) (g.S.Stepping.holder c.if-not-is_empty.steps) (g.S.Stepping.holder c.complete_all.new.steps)) (IsUnclosed (RegistersAtMost c.args.aggregate c.args.next.now) c.args.aggregate c.args.next.now (g.S.Stepping.holder c.args.steps.now) (g.S.Stepping.holder c.complete_all.new.steps))
     (λ e is. error_either c.args.aggregate c.args.next.now c.in_ok-xorb.files.items c.in_ok-xorb.xorb c.in_ok-xorb.ensures.xorb c.in_ok-xorb.ensures.files (g.S.Stepping.holder c.args.steps.now) (g.S.Stepping.holder c.if-not-is_empty.steps) (g.S.Stepping.holder c.complete_all.new.steps) r c.complete_all.ensures.first e is) c.complete_all.ensures.refused

@@ -5,7 +5,7 @@ use Rattle.std.specs.Vec.Iter.{into_iter_items}
 use Rattle.xet_base.specs.theorems.Exits.{exit_with}
 use Rattle.xet_shard_format.specs.Records.{IsFile}
 use Rattle.xet_clean.specs.Closing.{IsClosingError}
-use Rattle.xet_clean.specs.theorems.Adding.{records_nothing}
+use Rattle.xet_clean.specs.theorems.Adding.{calls_nothing, records_nothing}
 use Rattle.xet_clean.proofs.Completing.{Finished, IsCompleting, completing_begins, completing_done, completing_first, completing_more, completing_most, completing_refused, records_of}
 use Rattle.xet_clean.proofs.aggregate.complete_all.Goals as goal
 
@@ -80,4 +80,4 @@ returns-in_err-_added-clause-first g c =
 pub returns-clause-first : goal.returns-clause-first
 returns-clause-first g c =
     completing_first c.args.files.items (into_iter_items c.loop-file.file-iterator) (g.S.Stepping.holder c.args.steps.now) (g.S.Stepping.holder c.loop-file.steps) (g.S.Stepping.holder c.loop-file.steps) c.loop-file.invariant.completing
-    (records_nothing (g.S.Stepping.holder c.loop-file.steps))
+    (records_nothing (g.S.Stepping.holder c.loop-file.steps)) (calls_nothing (g.S.Stepping.holder c.loop-file.steps) (records_nothing (g.S.Stepping.holder c.loop-file.steps)).follows)

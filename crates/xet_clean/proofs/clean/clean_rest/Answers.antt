@@ -1,6 +1,6 @@
-use Rattle.std.proofs.Common.{length, refl}
-use Rattle.std.proofs.lemmas.Result.{IfOk-at_ok}
-use Rattle.xet_clean.specs.Sources.{HasCleaned}
+use Rattle.std.proofs.Common.{[], length, refl}
+use Rattle.std.proofs.lemmas.Result.{IfErr-at_err, IfOk-at_ok}
+use Rattle.xet_clean.specs.Sources.{HasCleaned, IsCutShort}
 use Rattle.xet_clean.specs.declared.info.Cleaned.{Cleaned}
 use Rattle.xet_clean.specs.declared.working.Working.{Working}
 use Rattle.xet_clean.proofs.Looping.{loop_of}
@@ -58,3 +58,9 @@ returns-in-Ok-clause-refused g c =
     let l = loop_of tells left faults c.args.policy.now c.args.sources.now c.clean_each-asking.new.sources start h w.cleaned.infos.items w.cleaned.choices.items w.cleaned.metrics w.aggregate given in
     let last = g.S.Stepping.holder c.end-cleaned.new.steps in
     end_reason tells left faults c.args.policy.now c.args.sources.now c.clean_each-asking.new.sources (length c.args.sources.now) start h w.cleaned.infos.items w.cleaned.choices.items w.cleaned.metrics w.aggregate l last c.end-cleaned.result c.end-cleaned.ensures.few c.end-cleaned.ensures.refused
+
+pub returns-in-Err-clause-bound : goal.returns-in-Err-clause-bound
+returns-in-Err-clause-bound g c =
+    let start = g.S.Stepping.holder c.args.asking.steps in
+    let h = g.S.Stepping.holder c.clean_each-asking.result.0.steps in
+    ([], IfErr-at_err (IsCutShort [] c.args.policy.now g.R.Source.tells g.R.Source.left c.args.sources.now c.clean_each-asking.new.sources start h) c.in-Err.is c.clean_each-asking.ensures.bound)

@@ -20,7 +20,7 @@ returns g c =
     c.into_store-session.ensures c.recall_steps.ensures c.recall_sound.ensures c.recall_invariant.ensures
     (subst (λ (a : AloneState). Follows (alone_of first.start first.store first.stopped) (alone_of a.start a.store a.stopped)) (sym given) known.follows)
     (subst (λ (a : AloneState). IsResult tells left faults c.args.policy.now sources now (λ (t : Cleaned). t.infos.items) (λ (t : Cleaned). t.choices.items) (λ (t : Cleaned). t.metrics) (alone_of first.start first.store first.stopped) (alone_of a.start a.store a.stopped) c.clean_all-asking.result.1) (sym given)
-    (record { ends = known.cleaned; read = known.read; short = known.bound; why = known.refused })) in
+    (record { ends = known.cleaned; read = known.read; short = known.bound; why = known.refused })) known.sources_tell in
     record {
       infos = p.infos_are;
       read = p.read;

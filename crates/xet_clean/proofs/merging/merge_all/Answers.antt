@@ -1,9 +1,10 @@
 use Rattle.std.proofs.Common.{◌≡◌, ℕ, [], subst, sym, arith}
 use Rattle.std.proofs.lemmas.Result.{IfErr-weaker, IfOk-weaker}
 use Rattle.xet_cut.specs.Limits.{AreInRange}
-use Rattle.xet_clean.specs.Closing.{Closes, IsAtMost, IsUnclosed}
+use Rattle.xet_clean.specs.Closing.{Closes, IsAtMost, IsUnclosed, RegistersAtMost}
 use Rattle.xet_clean.specs.Merging.{IsUnmerged, MergesAll}
 use Rattle.xet_clean.specs.declared.info.Cleaned.{Cleaned}
+use Rattle.xet_clean.specs.theorems.Nexts.{last_closes}
 use Rattle.xet_clean.proofs.Merged.{merges_all, merging_begins, merging_few, merging_here, unmerged}
 use Rattle.xet_clean.proofs.Parting.{may_count}
 use Rattle.xet_clean.proofs.merging.merge_all.Goals as goal
@@ -61,8 +62,8 @@ returns-in-Ok-clause-refused g c = λ ps may.
     let range = subst AreInRange c.limits.ensures c.recall_invariant.ensures in
     let begins = merging_begins h range ps c.args.parts.items _ _ c.requires.some c.remove-whole.ensures.value c.remove-whole.ensures.by_index.2 c.requires.count may in
     let is = c.in-Ok.ensures.merged ps h begins in
-    IfErr-weaker c.end.result (IsUnclosed w.aggregate [] mid new) (IsUnmerged ps h new)
-    (λ e unclosed. unmerged ps [] h mid w.cleaned.infos.items w.cleaned.choices.items w.cleaned.metrics w.aggregate is [] new e unclosed) c.end.ensures.refused
+    IfErr-weaker c.end.result (IsUnclosed (RegistersAtMost w.aggregate []) w.aggregate [] mid new) (IsUnmerged ps h new)
+    (λ e unclosed. unmerged ps [] h mid w.cleaned.infos.items w.cleaned.choices.items w.cleaned.metrics w.aggregate is (RegistersAtMost w.aggregate []) (last_closes w.aggregate) [] new e unclosed) c.end.ensures.refused
 
 pub returns-in-Err-clause-few : goal.returns-in-Err-clause-few
 returns-in-Err-clause-few g c =

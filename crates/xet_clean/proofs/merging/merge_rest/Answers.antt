@@ -1,12 +1,15 @@
 use Rattle.std.proofs.Common.{◌≡◌, ◌∙◌, [], List, length, ap, subst, sym, arith}
 use Rattle.std.proofs.lemmas.List.{nil_from_length}
+use Rattle.std.specs.List.{AllByRecursion}
 use Rattle.std.specs.Vec.Iter.{into_iter_items}
 use Rattle.xet_base.specs.theorems.Exits.{exit_with}
+use Rattle.xet_dedup_queries.specs.Counting.{HasNext}
 use Rattle.xet_steps.specs.theorems.Following.{follows_nothing, follows_then}
 use Rattle.xet_clean.specs.Merging.{IsUnmerged}
 use Rattle.xet_clean.specs.declared.working.Working.{Working}
 use Rattle.xet_clean.specs.internal.Merging.{IsMerging}
 use Rattle.xet_clean.proofs.Merged.{merging_few, merging_here, merging_more, merging_rest, merging_room, unmerged}
+use Rattle.xet_clean.specs.theorems.Nexts.{closes_none}
 use Rattle.xet_clean.specs.theorems.Counting.{at_most_more, at_most_nothing}
 use Rattle.xet_clean.proofs.Parting.{most_of}
 use Rattle.xet_clean.proofs.merging.merge_rest.Goals as goal
@@ -48,7 +51,7 @@ returns-in_err-merge-clause-refused g c = λ ps start was.
     let now = g.S.Stepping.holder c.loop-part.steps in
     let new = g.S.Stepping.holder c.merge.new.steps in
     exit_with (IsUnmerged ps start new) _ _ c.from_residual.ensures.1
-    (unmerged ps _ start now _ _ _ _ (c.loop-part.invariant.merging ps start was) _ new _ c.in_err-merge.ensures.refused)
+    (unmerged ps _ start now _ _ _ _ (c.loop-part.invariant.merging ps start was) (AllByRecursion HasNext) (λ calls all. ([], closes_none calls all)) _ new _ c.in_err-merge.ensures.refused)
 
 pub loop-part-preserved : goal.loop-part-preserved
 loop-part-preserved g c =

@@ -2,7 +2,7 @@ use Rattle.std.proofs.Common.{◌+◌, [], ◌∷◌, refl, subst, arith}
 use Rattle.xet_cut.specs.Limits.{AreInRange}
 use Rattle.xet_clean.specs.declared.cleaner.FinishedFile.{FinishedFile}
 use Rattle.xet_clean.specs.declared.info.Cleaned.{Cleaned}
-use Rattle.xet_clean.proofs.Looping.{taken_end}
+use Rattle.xet_clean.proofs.Looped.{taken_end}
 use Rattle.xet_clean.proofs.Turning.{added_of, end_ends, end_reads, end_reason, end_short, loop_begins_with, turn_goes_on, turn_stops}
 use Rattle.xet_steps.specs.theorems.Following.{follows_then}
 use Rattle.xet_clean.proofs.single.clean_only.Goals as goal
@@ -170,7 +170,7 @@ returns-in-Err-clause-bound g c =
     let known = c.clean_source-asking.ensures in
     let first = loop_begins_with tells left faults c.args.policy.now (s ∷ []) start w.cleaned.infos.items w.cleaned.choices.items w.cleaned.metrics w.aggregate c.requires.going c.requires.nothing in
     let last = g.S.Stepping.holder c.keep.new.steps in
-    (turn_stops tells left faults c.args.policy.now (λ (f : FinishedFile). f.info) (λ (f : FinishedFile). f.metrics) (λ (f : FinishedFile). f.choices) (λ (f : FinishedFile). f.rest) (s ∷ []) (s ∷ []) 0 start start w.cleaned.infos.items w.cleaned.choices.items w.cleaned.metrics w.aggregate first (omega arith) s t mid last file c.keep.result c.in-Err.error (record { finished = known.finished; few = known.few; follows = known.follows; frame = known.frame; refused = known.refused }) (record { few = c.keep.ensures.few; refused = c.keep.ensures.refused; kept = c.keep.ensures.kept }) c.in-Err.is).short
+    ([], (turn_stops tells left faults c.args.policy.now (λ (f : FinishedFile). f.info) (λ (f : FinishedFile). f.metrics) (λ (f : FinishedFile). f.choices) (λ (f : FinishedFile). f.rest) (s ∷ []) (s ∷ []) 0 start start w.cleaned.infos.items w.cleaned.choices.items w.cleaned.metrics w.aggregate first (omega arith) s t mid last file c.keep.result c.in-Err.error (record { finished = known.finished; few = known.few; follows = known.follows; frame = known.frame; refused = known.refused }) (record { few = c.keep.ensures.few; refused = c.keep.ensures.refused; kept = c.keep.ensures.kept }) c.in-Err.is).short)
 
 pub returns-in-Err-clause-taken : goal.returns-in-Err-clause-taken
 returns-in-Err-clause-taken g c =

@@ -1,7 +1,7 @@
 use Rattle.std.proofs.Common.{ap, length, subst, arith}
 use Rattle.xet_cut.specs.Limits.{AreInRange}
 use Rattle.xet_clean.specs.declared.cleaner.FinishedFile.{FinishedFile}
-use Rattle.xet_clean.proofs.Looping.{has_cleaned, later_end, taken_end, tell_end}
+use Rattle.xet_clean.proofs.Looped.{has_cleaned, later_end, taken_end, tell_end}
 use Rattle.xet_clean.proofs.Turning.{added_of, loop_begins_with, turn_goes_on, turn_stops}
 use Rattle.xet_clean.proofs.sources.clean_each.Goals as goal
 

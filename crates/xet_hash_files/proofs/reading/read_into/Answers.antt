@@ -3,7 +3,7 @@ use Rattle.std.proofs.lemmas.List.{length-take-le}
 use Rattle.xet_base.specs.theorems.Exits.{exit_with}
 use Rattle.xet_cut.specs.declared.limits.LimitSettings.{LimitSettings}
 use Rattle.xet_hash_files.specs.internal.Sources.{IsSourceError}
-use Rattle.xet_hash_files.proofs.Taking.{add_error, on_err, read_error, takes_all, takes_lost, takes_more, takes_nothing}
+use Rattle.xet_hash_files.proofs.Taking.{add_error, failed_takes, on_err, read_error, takes_all, takes_lost, takes_more, takes_nothing}
 use Rattle.xet_hash_files.proofs.reading.read_into.Goals as goal
 
 pub loop-count-init : goal.loop-count-init
@@ -22,7 +22,7 @@ returns-in_err-count-clause-some g c =
     let i = c.loop-count.invariant in
     on_err c.from_residual.result
     (takes_lost (g.S.Source.tells c.args.source.now) (g.S.Source.left c.args.source.now) (g.S.Source.left c.loop-count.source) (g.S.Source.left c.read_block.new.source) i.read.0 i.read.1
-    (λ t. c.in_err-count.ensures.filled (i.tells ∙ t)))
+    (λ t. failed_takes _ _ _ (c.in_err-count.ensures.filled (i.tells ∙ t))))
 
 pub returns-in_err-count-clause-frame : goal.returns-in_err-count-clause-frame
 returns-in_err-count-clause-frame g c =

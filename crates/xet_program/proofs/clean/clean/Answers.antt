@@ -5,7 +5,7 @@ use Rattle.xet_steps.specs.Recorded.{RecordedState}
 use Rattle.xet_program.specs.internal.Stops.{cleaning_store_causes}
 use Rattle.xet_program.proofs.Folder.{folder_cleaning, stop_refused, stops_cleaning}
 use Rattle.xet_program.specs.Tasks.{store_folder}
-use Rattle.xet_program.proofs.Listing.{contents_before, foreign_same, keeps_folder, keeps_listed}
+use Rattle.xet_program.proofs.Listing.{contents_before, few_before, foreign_same, keeps_folder, keeps_listed, opens_before}
 use Rattle.xet_program.proofs.Named.{cleaned_text, idle_kept}
 use Rattle.xet_program.proofs.clean.clean.Goals as goal
 
@@ -15,7 +15,7 @@ returns-in-Ok-clause-cleaned g c =
     let disk = g.D.Disk.files c.args.disk in
     let opened = subst (λ (l : LimitSettings). IsOpened tells false disk store_folder l c.args.now c.in-Ok.session.store) c.default_limits.ensures c.in-Ok.ensures.opened in
     cleaned_text (g.F.Inputs.tells c.args.inputs.now) (g.F.Inputs.files c.args.inputs.now) (map string_bytes c.args.names.now) tells disk _ c.args.now c.in-Ok.session.store c.clean_names-session.result.0.store opened c.recall_sound.ensures c.clean_names-session.ensures.keeps
-    c.into_disk-disk.ensures.files (contents_before _ _ _ _ _ c.in-Ok.ensures.opened c.in-Ok.ensures.contents) c.clean_names-session.result.1 c.clean_names-session.ensures.cleaned
+    c.into_disk-disk.ensures.files (opens_before _ _ _ _ _ c.in-Ok.ensures.opened c.in-Ok.ensures.contents (few_before c.in-Ok.session _ c.clean_names-session.ensures.keeps c.recall_invariant.ensures)) c.clean_names-session.result.1 c.clean_names-session.ensures.cleaned
 
 pub returns-in-Ok-clause-listed : goal.returns-in-Ok-clause-listed
 returns-in-Ok-clause-listed g c =
@@ -58,7 +58,8 @@ returns-in-Ok-clause-stop g c =
     let disk = g.D.Disk.files c.args.disk in
     let opened = subst (λ (l : LimitSettings). IsOpened tells false disk store_folder l c.args.now c.in-Ok.session.store) c.default_limits.ensures c.in-Ok.ensures.opened in
     stops_cleaning (g.F.Inputs.tells c.args.inputs.now) (g.F.Inputs.files c.args.inputs.now) (map string_bytes c.args.names.now) tells disk _ c.args.now c.in-Ok.session c.clean_names-session.result.0 opened c.clean_names-session.ensures.keeps
-    c.recall_sound-in-Ok.ensures c.recall_invariant.ensures c.into_disk-disk.ensures.files (contents_before _ _ _ _ _ c.in-Ok.ensures.opened c.in-Ok.ensures.contents) c.clean_names-session.result.1 c.clean_names-session.ensures.stop
+    c.recall_sound-in-Ok.ensures c.recall_invariant.ensures c.into_disk-disk.ensures.files
+    (opens_before _ _ _ _ _ c.in-Ok.ensures.opened c.in-Ok.ensures.contents (few_before c.in-Ok.session _ c.clean_names-session.ensures.keeps c.recall_invariant.ensures)) c.clean_names-session.result.1 c.clean_names-session.ensures.stop
 
 pub returns-in-Err-clause-stop : goal.returns-in-Err-clause-stop
 returns-in-Err-clause-stop g c =
@@ -70,7 +71,7 @@ returns-in-Err-clause-stop g c =
     let names = map string_bytes c.args.names.now in
     let same = c.in-Err.ensures.unpruned refl in
     stop_refused (cleaning_store_causes inputs_tell inputs names tells c.args.now old new) c.not_opened.result.1 tells old (g.D.Disk.files c.in-Err.refused.disk) c.args.now _ _ c.in-Err.refused.error c.in-Err.refused.name same c.in-Err.ensures.refused
-    (folder_cleaning inputs_tell inputs names tells c.args.now old new (ap g.D.Disk.files c.not_opened.ensures.disk ∙ same)) c.not_opened.ensures.stop
+    (folder_cleaning inputs_tell inputs names tells c.args.now old new) c.not_opened.ensures.stop
 
 pub returns-in-Ok-clause-foreign : goal.returns-in-Ok-clause-foreign
 returns-in-Ok-clause-foreign g c =

@@ -1,11 +1,12 @@
-use Rattle.std.proofs.Common.{◌≡◌, ◌∙◌, ◌<◌, Any, Err, IfErr, length, map, string_bytes, subst, sym, ap, arith}
+use Rattle.std.proofs.Common.{◌≡◌, ◌∙◌, ◌<◌, ℕ, true, List, Any, Err, IfErr, length, map, string_bytes, subst, sym, ap, arith}
 use Rattle.std.proofs.lemmas.List.{length-map, with_items_is}
 use Rattle.std.proofs.lemmas.Result.{IfErr-at_err, IfErr-weaker}
 use Rattle.xet_cut.specs.Limits.{AreInRange}
 use Rattle.xet_store.specs.theorems.Keeping.{keeps_nothing, keeps_then}
 use Rattle.xet_program.specs.declared.ending.Stop.TheVariants as stop
+use Rattle.xet_program.specs.Answers.{AreNamed}
 use Rattle.xet_program.specs.internal.Stops.{IsStop, cleaning_causes, naming_causes, opening_causes}
-use Rattle.xet_program.proofs.Complete.{none_absent}
+use Rattle.xet_program.proofs.Absent.{none_absent}
 use Rattle.xet_program.proofs.Opened.{on_ok_here, opened_count, opened_lent, opened_named, rose_after, rose_then, same_length, some_failed, stop_of_names, stop_of_opening}
 use Rattle.xet_program.proofs.Settled.{AreSteps}
 use Rattle.xet_program.proofs.Reported.{cause_all, cause_of, names_answer, no_bounds, stop_names}
@@ -60,7 +61,8 @@ returns-in-Ok-clause-stop g c =
     let stops : IfErr c.clean_sources-session.result.1 (IsStop (naming_causes told files names session before)) =
     IfErr-weaker c.clean_sources-session.result.1 (IsStop (cleaning_causes g.F.S.Source.tells g.F.S.Source.left g.F.S.Source.faults old new session before)) (IsStop (naming_causes told files names session before))
     (λ e h. stop_of_names told files g.F.S.Source.tells g.F.S.Source.left g.F.S.Source.faults names old new session before e opened h) c.clean_sources-session.ensures.stop in
-    stop_names session c.clean_sources-session.result.0 c.report_all-session.result.0 told files names c.clean_sources-session.result.1 c.report_all-session.result.1 c.clean_sources-session.ensures.keeps.tells stops c.report_all-session.ensures.stop
+    let named : told ≡ true → (fs : List (List ℕ)) × AreNamed files names fs = λ inputs_told. (map g.F.S.Source.left old, opened_named told files g.F.S.Source.tells g.F.S.Source.left g.F.S.Source.faults names old inputs_told opened) in
+    stop_names session c.clean_sources-session.result.0 c.report_all-session.result.0 told files names c.clean_sources-session.result.1 c.report_all-session.result.1 c.clean_sources-session.ensures.keeps.tells named stops c.report_all-session.ensures.stop
     c.report_all-session.ensures.stopped
 
 pub returns-in-Ok-clause-absent : goal.returns-in-Ok-clause-absent

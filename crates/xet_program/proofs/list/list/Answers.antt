@@ -1,7 +1,13 @@
 use Rattle.std.proofs.Common.{refl}
 use Rattle.xet_program.specs.internal.Stops.{folder_causes}
-use Rattle.xet_program.proofs.Folder.{stop_refused}
+use Rattle.xet_program.proofs.Folder.{lists_opened, stop_refused}
+use Rattle.xet_program.proofs.Listing.{opens_before}
 use Rattle.xet_program.proofs.list.list.Goals as goal
+
+pub returns-in-Ok-clause-listed : goal.returns-in-Ok-clause-listed
+returns-in-Ok-clause-listed g c =
+    lists_opened (g.D.Disk.tells c.args.disk) (g.D.Disk.files c.args.disk) _ c.args.now c.in-Ok.session c.in-Ok.ensures.opened (opens_before _ _ _ _ _ c.in-Ok.ensures.opened c.in-Ok.ensures.contents c.in-Ok.ensures.few) c.list_files-answer.result
+    c.list_files-answer.ensures.text c.list_files-answer.ensures.differ
 
 pub returns-in-Err-clause-stop : goal.returns-in-Err-clause-stop
 returns-in-Err-clause-stop g c =

@@ -1,11 +1,11 @@
-use Rattle.std.proofs.Common.{◌∙◌, ap, arith, false, refl, subst}
+use Rattle.std.proofs.Common.{◌∙◌, arith, false, refl, subst}
 use Rattle.xet_cut.specs.declared.limits.LimitSettings.{LimitSettings}
 use Rattle.xet_store.specs.Opening.{IsOpened}
 use Rattle.xet_program.specs.internal.Stops.{making_causes}
 use Rattle.xet_program.specs.Tasks.{store_folder}
 use Rattle.xet_program.proofs.Folder.{folder_making, never_seven, stop_refused, stops_making}
 use Rattle.xet_program.proofs.Held.{texts_of}
-use Rattle.xet_program.proofs.Listing.{contents_before, foreign_same, keeps_folder, keeps_listed}
+use Rattle.xet_program.proofs.Listing.{contents_before, few_before, foreign_same, keeps_folder, keeps_listed, opens_before}
 use Rattle.xet_program.proofs.make.store_file.Goals as goal
 
 pub returns-in-Ok-clause-made : goal.returns-in-Ok-clause-made
@@ -14,15 +14,15 @@ returns-in-Ok-clause-made g c =
     let disk = g.D.Disk.files c.args.disk in
     let opened = subst (λ (l : LimitSettings). IsOpened tells false disk store_folder l c.args.now c.in-Ok.session.store) c.default_limits.ensures c.in-Ok.ensures.opened in
     texts_of tells disk _ c.args.now c.in-Ok.session.store c.store_both-session.result.0.store opened c.store_both-session.ensures.keeps c.recall_sound.ensures c.into_disk-disk.ensures.files c.args.bytes.items
-    (contents_before _ _ _ _ _ c.in-Ok.ensures.opened c.in-Ok.ensures.contents) c.store_both-session.result.1 c.store_both-session.ensures.made
+    (opens_before _ _ _ _ _ c.in-Ok.ensures.opened c.in-Ok.ensures.contents (few_before c.in-Ok.session _ c.store_both-session.ensures.keeps c.recall_invariant.ensures)) c.store_both-session.result.1 c.store_both-session.ensures.made
 
 pub returns-in-Ok-clause-stop : goal.returns-in-Ok-clause-stop
 returns-in-Ok-clause-stop g c =
     let tells = g.D.Disk.tells c.args.disk in
     let disk = g.D.Disk.files c.args.disk in
     let opened = subst (λ (l : LimitSettings). IsOpened tells false disk store_folder l c.args.now c.in-Ok.session.store) c.default_limits.ensures c.in-Ok.ensures.opened in
-    stops_making tells disk _ c.args.now c.in-Ok.session c.store_both-session.result.0 opened c.store_both-session.ensures.keeps c.recall_sound.ensures c.recall_invariant.ensures c.into_disk-disk.ensures.files c.args.bytes.items
-    c.store_both-session.result.1 c.store_both-session.ensures.stop
+    stops_making tells disk _ c.args.now c.in-Ok.session c.store_both-session.result.0 opened c.store_both-session.ensures.keeps c.recall_sound.ensures c.recall_invariant.ensures c.into_disk-disk.ensures.files
+    (opens_before _ _ _ _ _ c.in-Ok.ensures.opened c.in-Ok.ensures.contents (few_before c.in-Ok.session _ c.store_both-session.ensures.keeps c.recall_invariant.ensures)) c.args.bytes.items c.store_both-session.result.1 c.store_both-session.ensures.stop
 
 pub returns-in-Ok-clause-listed : goal.returns-in-Ok-clause-listed
 returns-in-Ok-clause-listed g c =
@@ -62,4 +62,4 @@ returns-in-Err-clause-stop g c =
     let new = g.D.Disk.files c.not_opened.result.0 in
     let same = c.in-Err.ensures.unpruned refl in
     stop_refused (making_causes tells c.args.now old new c.args.bytes.items) c.not_opened.result.1 tells old (g.D.Disk.files c.in-Err.refused.disk) c.args.now _ _ c.in-Err.refused.error c.in-Err.refused.name same c.in-Err.ensures.refused
-    (folder_making tells c.args.now old new c.args.bytes.items (ap g.D.Disk.files c.not_opened.ensures.disk ∙ same)) c.not_opened.ensures.stop
+    (folder_making tells c.args.now old new c.args.bytes.items) c.not_opened.ensures.stop

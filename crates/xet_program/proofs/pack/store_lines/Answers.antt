@@ -1,15 +1,15 @@
-use Rattle.std.proofs.Common.{◌∙◌, ap, arith, refl}
+use Rattle.std.proofs.Common.{◌∙◌, arith, refl}
 use Rattle.xet_store.specs.Opening.{contents_of}
 use Rattle.xet_program.specs.internal.Stops.{storing_causes}
 use Rattle.xet_program.proofs.Folder.{folder_storing, stop_refused, stops_storing}
-use Rattle.xet_program.proofs.Listing.{contents_before, foreign_same, keeps_folder, keeps_listed}
+use Rattle.xet_program.proofs.Listing.{contents_before, few_before, foreign_same, keeps_folder, keeps_listed, opens_before}
 use Rattle.xet_program.proofs.Making.{are_stored}
 use Rattle.xet_program.proofs.Outcomes.{never_idle, on_ok_both, on_ok_given}
 use Rattle.xet_program.proofs.Named.{report_on_disk}
 use Rattle.xet_program.proofs.pack.store_lines.Goals as goal
 
 pub returns-in-Ok-clause-valid : goal.returns-in-Ok-clause-valid
-returns-in-Ok-clause-valid g c = on_ok_given c.report_lines-session.result.1 (contents_of c.in-Ok.session.store, contents_before _ _ _ _ _ c.in-Ok.ensures.opened c.in-Ok.ensures.contents)
+returns-in-Ok-clause-valid g c = on_ok_given c.report_lines-session.result.1 (contents_of c.in-Ok.session.store, opens_before _ _ _ _ _ c.in-Ok.ensures.opened c.in-Ok.ensures.contents (few_before c.in-Ok.session _ c.report_lines-session.ensures.keeps c.recall_invariant.ensures))
 
 pub returns-in-Ok-clause-listed : goal.returns-in-Ok-clause-listed
 returns-in-Ok-clause-listed g c =
@@ -33,7 +33,8 @@ returns-in-Ok-clause-kept g c = λ told.
 pub returns-in-Ok-clause-stop : goal.returns-in-Ok-clause-stop
 returns-in-Ok-clause-stop g c =
     stops_storing (g.D.Disk.tells c.args.disk) (g.D.Disk.files c.args.disk) _ c.args.limits.now c.args.now c.in-Ok.session c.report_lines-session.result.0 c.in-Ok.ensures.opened c.report_lines-session.ensures.keeps c.recall_sound-in-Ok.ensures
-    c.recall_invariant.ensures c.into_disk-disk.ensures.files c.args.lines.now c.report_lines-session.result.1 c.report_lines-session.ensures.stop
+    c.recall_invariant.ensures c.into_disk-disk.ensures.files c.args.lines.now c.report_lines-session.result.1
+    (opens_before _ _ _ _ _ c.in-Ok.ensures.opened c.in-Ok.ensures.contents (few_before c.in-Ok.session _ c.report_lines-session.ensures.keeps c.recall_invariant.ensures)) c.report_lines-session.ensures.stop
 
 pub returns-in-Err-clause-stop : goal.returns-in-Err-clause-stop
 returns-in-Err-clause-stop g c =
@@ -42,7 +43,7 @@ returns-in-Err-clause-stop g c =
     let new = g.D.Disk.files c.not_opened.result.0 in
     let same = c.in-Err.ensures.unpruned refl in
     stop_refused (storing_causes tells c.args.limits.now c.args.lines.now c.args.now old new) c.not_opened.result.1 tells old (g.D.Disk.files c.in-Err.refused.disk) c.args.now _ _ c.in-Err.refused.error c.in-Err.refused.name same c.in-Err.ensures.refused
-    (folder_storing tells c.args.limits.now c.args.lines.now c.args.now old new (ap g.D.Disk.files c.not_opened.ensures.disk ∙ same)) c.not_opened.ensures.stop
+    (folder_storing tells c.args.limits.now c.args.lines.now c.args.now old new) c.not_opened.ensures.stop
 
 pub returns-in-Ok-clause-report : goal.returns-in-Ok-clause-report
 returns-in-Ok-clause-report g c =

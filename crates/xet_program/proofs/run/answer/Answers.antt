@@ -5,8 +5,14 @@ use Rattle.xet_program.specs.internal.Answered.{Answered}
 use Rattle.xet_program.specs.Start.{start}
 use Rattle.xet_program.specs.internal.Stops.{answer_outcome}
 use Rattle.xet_program.specs.internal.Asked.{AllowsInput, asked}
-use Rattle.xet_program.proofs.Alone.{answered_clean, answered_group, answered_make}
+use Rattle.xet_program.proofs.Alone.{answered_clean, answered_group, answered_list, answered_make, answered_read}
 use Rattle.xet_program.proofs.run.answer.Goals as goal
+
+pub returns-in-Pack-clause-answered : goal.returns-in-Pack-clause-answered
+returns-in-Pack-clause-answered g c =
+    let from = start (g.I.Source.tells c.args.input.now) (g.I.Source.left c.args.input.now) (g.F.Inputs.tells c.args.inputs.now) (g.F.Inputs.files c.args.inputs.now) c.args.now (g.D.Disk.tells c.args.disk) (g.D.Disk.files c.args.disk) in
+    subst (λ (x : Parsed). Answered (Some (asked x)) from (g.D.Disk.files c.pack.result.0) (answer_outcome c.pack.result.1)) (sym c.in-Pack.is)
+    (c.pack.ensures.answered (g.F.Inputs.tells c.args.inputs.now) (g.F.Inputs.files c.args.inputs.now))
 
 pub clean-requires-after_bounds : goal.clean-requires-after_bounds
 clean-requires-after_bounds g c = λ lives within.
@@ -29,6 +35,20 @@ returns-in-Make-clause-answered g c =
     let new = g.D.Disk.files c.make.result.0 in
     subst (λ (x : Parsed). Answered (Some (asked x)) from new (answer_outcome c.make.result.1)) (sym c.in-Make.is)
     (answered_make from new c.in-Make.seed c.in-Make.bytes c.make.result.1 c.make.ensures.made c.make.ensures.stop c.make.ensures.listed c.make.ensures.keeps c.make.ensures.refused c.make.ensures.kept c.make.ensures.foreign)
+
+pub returns-in-Read-clause-answered : goal.returns-in-Read-clause-answered
+returns-in-Read-clause-answered g c =
+    let from = start (g.I.Source.tells c.args.input.now) (g.I.Source.left c.args.input.now) (g.F.Inputs.tells c.args.inputs.now) (g.F.Inputs.files c.args.inputs.now) c.args.now (g.D.Disk.tells c.args.disk) (g.D.Disk.files c.args.disk) in
+    let new = g.D.Disk.files c.read.result.0 in
+    subst (λ (x : Parsed). Answered (Some (asked x)) from new (answer_outcome c.read.result.1)) (sym c.in-Read.is)
+    (answered_read from new c.in-Read.hash c.in-Read.from c.in-Read.to c.read.result.1 c.read.ensures.same c.read.ensures.ordered c.read.ensures.length c.read.ensures.range c.read.ensures.stop)
+
+pub returns-in-ListFiles-clause-answered : goal.returns-in-ListFiles-clause-answered
+returns-in-ListFiles-clause-answered g c =
+    let from = start (g.I.Source.tells c.args.input.now) (g.I.Source.left c.args.input.now) (g.F.Inputs.tells c.args.inputs.now) (g.F.Inputs.files c.args.inputs.now) c.args.now (g.D.Disk.tells c.args.disk) (g.D.Disk.files c.args.disk) in
+    let new = g.D.Disk.files c.list.result.0 in
+    subst (λ (x : Parsed). Answered (Some (asked x)) from new (answer_outcome c.list.result.1)) (sym c.in-ListFiles.is)
+    (answered_list from new c.list.result.1 c.list.ensures.same c.list.ensures.listed c.list.ensures.stop)
 
 pub returns-in-Group-clause-answered : goal.returns-in-Group-clause-answered
 returns-in-Group-clause-answered g c =

@@ -11,8 +11,9 @@ use Rattle.xet_store.specs.Separate.{Separate}
 use Rattle.xet_store.specs.Store.{plan_of}
 use Rattle.xet_workers.specs.Cleaning.{IsCleanedBy}
 use Rattle.xet_program.specs.internal.Stops.{IsStop, cleaning_causes}
-use Rattle.xet_program.proofs.Cleaned.{Reason, chosen_all, chunked_files, rose_of_reason, since_is, stop_of_reason}
+use Rattle.xet_program.proofs.Cleaned.{Reason, chosen_all, chunked_files, rose_of_reason, short_of_sources, since_is, stop_of_reason}
 use Rattle.xet_program.proofs.MadeFiles.{added_of, counted_of}
+use Rattle.xet_program.proofs.Opened.{on_ok_here}
 use Rattle.xet_program.proofs.session.clean_sources.Goals as goal
 
 pub returns-in-Ok-clause-cleaned : goal.returns-in-Ok-clause-cleaned
@@ -30,6 +31,7 @@ returns-in-Ok-clause-cleaned g c =
       files = is.files;
       each = is.told;
       told = is.pointers;
+      short = λ tell. short_of_sources tells left l sources is.files is.told (on_ok_here c.in-Ok.is c.clean_files-session.ensures.short) tell;
       entries = grows.entries;
       steps = grows.steps;
       recorded = chosen_all c.args.workers l grows.entries _ is.files _ is.records (subst (λ (es : List Entry). IsPermutation is.records (files_in es)) since is.made) is.chosen;

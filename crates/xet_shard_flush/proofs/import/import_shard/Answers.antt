@@ -1,11 +1,14 @@
-use Rattle.std.proofs.Common.{◌∙◌, ap}
-use Rattle.xet_shard_file.specs.Names.{shard_path}
+use Rattle.std.proofs.Common.{List, subst, ℕ}
+use Rattle.xet_shard_flush.specs.Importing.{Imports}
 use Rattle.xet_shard_flush.proofs.import.import_shard.Goals as goal
 
-pub returns-in_ok-file-clause-imported : goal.returns-in_ok-file-clause-imported
-returns-in_ok-file-clause-imported g c =
-    c.write_known.ensures.imported c.args.folder.now c.args.cap (c.in_ok-file.ensures.path ∙ ap (shard_path c.args.folder.now) c.compute_data_hash-hash.ensures)
+pub returns-in-Ok-clause-imported : goal.returns-in-Ok-clause-imported
+returns-in-Ok-clause-imported g c =
+    let a = c.args in
+    let new = c.import_path.new in
+    let files = g.D.Disk.files in
+    let is = c.in-Ok.ensures.imported in
+    subst (λ (p : List ℕ). Imports (g.D.Disk.tells a.disk.now) a.cap (files a.disk.now) (files new.disk) a.folder.now a.bytes.now a.registry.now new.registry p) is.name is
 
-pub returns-in_ok-file-clause-safe : goal.returns-in_ok-file-clause-safe
-returns-in_ok-file-clause-safe g c = λ told.
-    c.write_known.ensures.safe told c.args.folder.now (c.in_ok-file.ensures.path ∙ ap (shard_path c.args.folder.now) c.compute_data_hash-hash.ensures)
+pub returns-in-Err-clause-checked : goal.returns-in-Err-clause-checked
+returns-in-Err-clause-checked g c = c.in-Err.ensures.checked

@@ -1,6 +1,7 @@
 use Rattle.xet_shard_lookup.proofs.Asking.{no_run_of_none}
 use Rattle.std.proofs.Common.{Ok, Option, ap, inl, sym}
 use Rattle.xet_shard_lookup.proofs.Asking.{begins_with, found_empty, found_pending, found_registered}
+use Rattle.xet_shard.specs.theorems.RunForm.{held_run_form}
 use Rattle.xet_shard_lookup.specs.Found.{Run}
 use Rattle.xet_shard_lookup.proofs.queries.find_run.Goals as goal
 
@@ -26,3 +27,6 @@ returns-in-Some-first-clause-there g c told = c.find_registered.ensures.there to
 
 pub returns-in-Some-clause-empty : goal.returns-in-Some-clause-empty
 returns-in-Some-clause-empty g c = λ empty. absurd (no_run_of_none _ c.args.query.now c.in-Some.run' empty c.in-Some.ensures)
+
+pub returns-in-Some-clause-shape : goal.returns-in-Some-clause-shape
+returns-in-Some-clause-shape g c = held_run_form c.args.pending.now.blocks c.args.query.now c.in-Some.run' (sym c.in-Some.ensures)

@@ -1,9 +1,6 @@
-use Rattle.std.proofs.Common.{◌∙◌, map, not, nat_eq, filter, ap}
-use Rattle.std.specs.Cmp.Lexicographic.{pointwise}
-use Rattle.std.specs.List.{list_any}
-use Rattle.xet_shard_directory.specs.declared.shard_file.MDBShardFile.{MDBShardFile}
+use Rattle.std.proofs.Common.{map}
 use Rattle.xet_shard_merge.specs.internal.Progressing.{offered_of}
-use Rattle.xet_shard_merge.proofs.Merged.{all_merged, none_went}
+use Rattle.xet_shard_merge.proofs.Merged.{merged_if, none_went, short_of_memory}
 use Rattle.xet_shard_merge.proofs.merge.merge_read.Goals as goal
 
 pub returns-in-Ok-clause-merged : goal.returns-in-Ok-clause-merged
@@ -14,9 +11,11 @@ returns-in-Ok-clause-merged g c = λ tells intact.
     let p = c.take_all.new.progress in
     let made = c.result_of.ensures in
     let went = none_went files c.args.target.now c.args.limit c.args.skip_on_error all c.new-progress.result new.open new.taken new.merged new.skipped in
-    all_merged files (g.D.Disk.files c.take_all.new.disk) c.args.target.now c.args.limit c.args.skip_on_error all p c.result_of.result (c.in-Ok.ensures.ended tells files all intact went)
-    made.merged
-    (λ groups taken. made.obsolete ∙ ap (filter (λ (s : MDBShardFile). not (list_any (λ (r : MDBShardFile). pointwise nat_eq r.path s.path) p.merged.items))) taken) made.skipped
+    merged_if files (g.D.Disk.files c.take_all.new.disk) c.args.target.now c.args.limit c.args.skip_on_error all p c.result_of.result (c.in-Ok.ensures.ended tells files all intact went) made.merged made.obsolete made.skipped
+
+pub returns-in-Ok-clause-refused : goal.returns-in-Ok-clause-refused
+returns-in-Ok-clause-refused g c = λ tells intact.
+    short_of_memory c.args.skip_on_error (map (offered_of (g.D.Disk.files c.args.disk.now)) c.args.shards.items) c.result_of.result c.result_of.ensures.memory
 
 pub returns-in-Err-clause-refused : goal.returns-in-Err-clause-refused
 returns-in-Err-clause-refused g c = λ tells intact.

@@ -8,9 +8,10 @@ use Rattle.xet_shard_directory.specs.Answers.{GivesUnlessDisk}
 use Rattle.xet_shard_directory.specs.declared.shard_file.MDBShardFile.{MDBShardFile}
 use Rattle.xet_shard_registry.specs.Collections.{IsRegistryOf}
 use Rattle.xet_shard_registry.specs.Registered.{Registered}
-use Rattle.xet_shard_registration.specs.Registering.{AddsFirst, Stops, registered_one}
+use Rattle.xet_shard_registration.specs.Registering.{AddsFirst, IsFullIfTooLarge, Stops, registered_one}
 use Rattle.xet_shard_registration.specs.internal.Steps.{RegistersOne}
 use Rattle.xet_shard_registration.proofs.Due.{adds_end, adds_front, adds_more, adds_none}
+use Rattle.xet_shard_registration.proofs.Growing.{grows_both, grows_none}
 use Rattle.xet_shard_registration.proofs.InOrder.{registers_end, registers_more, registers_none, registers_stop}
 use Rattle.xet_shard_registration.proofs.registration.register_in_order.Goals as goal
 
@@ -22,6 +23,8 @@ loop-file-init g c = record {
   registered = λ told shards records held. registers_none c.args.cap (g.D.Disk.files c.args.disk.now) records shards c.args.registry.now held;
   due = adds_none c.args.registry.now;
   grows = λ shards held. ([], subst (λ (l : List Registered). IsRegistryOf l c.args.registry.now) (sym (append-nil shards)) held);
+  enters = grows_none c.args.cap c.args.registry.now;
+  few = λ below. below;
   frame = record { same = refl; tells = refl; later = omega arith };
 }
 
@@ -41,6 +44,8 @@ loop-file-preserved g c =
           let more = i.grows shards held in
           let next = done.grows (shards ++ more.0) more.1 in
           (more.0 ++ next.0, subst (λ (l : List Registered). IsRegistryOf l after) (append_assoc shards more.0 next.0) next.1);
+      enters = grows_both c.args.cap c.args.registry.now before after i.enters done.enters;
+      few = λ below. done.few (i.few below);
       due = adds_more lent c.args.files.now c.loop-file.file-index file c.args.registry.now before after c.loop-file-test.true c.file-item.is i.due done.due;
       frame = record { same = done.frame.same ∙ i.frame.same; tells = done.frame.tells ∙ i.frame.tells; later = omega (arith, i.frame.later, done.frame.later) };
     }
@@ -74,3 +79,13 @@ returns-clause-due g c = adds_end lent c.args.files.now c.loop-file.file-index c
 pub returns-clause-registered : goal.returns-clause-registered
 returns-clause-registered g c = λ told shards records held.
     registers_end c.args.cap (g.D.Disk.files c.args.disk.now) records lent shards c.args.files.now c.loop-file.file-index c.loop-file.registry (omega arith) (c.loop-file.invariant.registered told shards records held)
+
+pub returns-in_err-register_one-clause-enters : goal.returns-in_err-register_one-clause-enters
+returns-in_err-register_one-clause-enters g c = grows_both c.args.cap c.args.registry.now c.loop-file.registry c.register_one.new.registry c.loop-file.invariant.enters c.in_err-register_one.ensures.enters
+
+pub returns-in_err-register_one-clause-few : goal.returns-in_err-register_one-clause-few
+returns-in_err-register_one-clause-few g c = λ below. c.in_err-register_one.ensures.few (c.loop-file.invariant.few below)
+
+pub returns-in_err-register_one-clause-full : goal.returns-in_err-register_one-clause-full
+returns-in_err-register_one-clause-full g c =
+    on_exit c.from_residual.result c.in_err-register_one.field-0.0 (IsFullIfTooLarge c.register_one.new.registry) c.from_residual.ensures.1 c.in_err-register_one.ensures.full

@@ -3,7 +3,7 @@ use Rattle.xet_shard.specs.Union.{ShardRecords}
 use Rattle.xet_shard_format.specs.Lookups.{flat_places}
 use Rattle.xet_shard_registry.specs.Collections.{IsRegistryOf}
 use Rattle.xet_shard_registry.specs.Registered.{Registered, with_shard}
-use Rattle.xet_shard_registration.proofs.Due.{adds_if_ok, adds_none_if_err, none_if_err}
+use Rattle.xet_shard_registration.proofs.Due.{adds_if_ok, adds_none_if_err, files_if_ok, none_if_err}
 use Rattle.xet_shard_registration.proofs.InOrder.{entered_with, on_ok}
 use Rattle.xet_shard_registration.proofs.registration.register_new.Goals as goal
 
@@ -25,3 +25,6 @@ returns-in_err-items-clause-same g c = none_if_err c.from_residual.result c.args
 
 pub returns-in_err-copy-clause-same : goal.returns-in_err-copy-clause-same
 returns-in_err-copy-clause-same g c = none_if_err c.from_residual-in_err-copy.result c.args.registry.now
+
+pub returns-clause-files : goal.returns-clause-files
+returns-clause-files g c = files_if_ok c.register.result c.args.file.now c.in_ok-copy.copy c.args.registry.now c.register.new.self c.in_ok-copy.ensures.copy c.register.ensures.files

@@ -96,7 +96,7 @@ returns-in-Ok g c = λ sound recorded.
     let ended = c.close_and_merge.ensures in
     left_ended (λ s. s.pass) (λ s. s.made) g.S.Source.tells g.S.Source.left g.S.Source.faults c.args.sources.now c.work_shared.new.sources g.J.Naming.store ys (take n (ys ++ drop (length ys) xs)) same c.work_shared.ensures.ended c.leave_seats-passes.result.0.items
     c.leave_seats-passes.ensures.passes (λ v. v.items) c.leave_seats-passes.result.1 c.leave_seats-passes.ensures.workings
-    c.close_and_merge.result.0 c.args.workers (omega (arith, count, c.work_shared.auto.seats, ap length c.deref_mut.ensures.value)) sound recorded work.tell work.taken work.later c.leave_seats-passes.ensures.error
+    c.close_and_merge.result.0 c.args.workers c.requires.workers.0 (omega (arith, count, c.work_shared.auto.seats, ap length c.deref_mut.ensures.value)) sound recorded work.tell work.taken work.later c.leave_seats-passes.ensures.error
     c.close_and_merge.result.1 ended.merged ended.unmerged ended.failed
 
 pub returns-in-Err : goal.returns-in-Err

@@ -1,4 +1,4 @@
-use Rattle.std.proofs.Common.{false}
+use Rattle.std.proofs.Common.{false, []}
 use Rattle.std.proofs.lemmas.Result.{IfErr-weaker, IfOk-weaker}
 use Rattle.xet_clean.specs.Sources.{HasCleaned, IsCutShort, IsLoopError}
 use Rattle.xet_clean.specs.declared.policy.Sha256Policy.TheVariants.{Compute}
@@ -37,10 +37,10 @@ returns-clause-refused g c =
     let ss = c.args.sources.now in
     let ts = c.clean_each-asking.new.sources in
     IfErr-weaker c.clean_each-asking.result.1
-    (λ e. IsLoopError tells left faults ss ts (holder_in asked) (holder_in after) e × IsCutShort Compute tells left ss ts (holder_in asked) (holder_in after) e)
+    (λ e. IsLoopError tells left faults ss ts (holder_in asked) (holder_in after) e × IsCutShort [] Compute tells left ss ts (holder_in asked) (holder_in after) e)
     (λ e. MayHavePassed store given.pass pass (IsRefused tells left faults ss ts given.pass pass e))
     (λ e is.
     refused_by store given asked after now pass c.new-asking.ensures.0 c.into_steps-passing.ensures c.into_pass.ensures c.clean_each-asking.ensures.follows c.requires.passing.0 c.requires.passing.1 c.requires.passing.2 c.requires.pass
     c.recall_passing.ensures.passing c.recall_passing.ensures.start c.recall_passing.ensures.pass tells left faults ss ts e is)
-    (err_and c.clean_each-asking.result.1 (IsLoopError tells left faults ss ts (holder_in asked) (holder_in after)) (IsCutShort Compute tells left ss ts (holder_in asked) (holder_in after)) c.clean_each-asking.ensures.refused
+    (err_and c.clean_each-asking.result.1 (IsLoopError tells left faults ss ts (holder_in asked) (holder_in after)) (IsCutShort [] Compute tells left ss ts (holder_in asked) (holder_in after)) c.clean_each-asking.ensures.refused
     c.clean_each-asking.ensures.bound)

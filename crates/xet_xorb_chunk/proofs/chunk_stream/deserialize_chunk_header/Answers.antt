@@ -4,7 +4,7 @@ use Rattle.xet_codec.specs.Stops.{StopsReading}
 use Rattle.xet_xorb_chunk.specs.Taking.{TakesFailedHeader}
 use Rattle.xet_base.specs.theorems.Exits.{exit_with}
 use Rattle.xet_xorb_chunk.proofs.Checks.{header_in_checks, no_failure, refused_as}
-use Rattle.xet_xorb_chunk.proofs.Prefixes.{header_left, no_reading, taken_prefix}
+use Rattle.xet_xorb_chunk.proofs.Prefixes.{failed_prefix, header_left, no_reading, taken_prefix}
 use Rattle.xet_xorb_chunk.specs.theorems.Prefixes.{header_told}
 use Rattle.xet_xorb_chunk.proofs.chunk_stream.deserialize_chunk_header.Goals as goal
 
@@ -24,7 +24,7 @@ returns-in_err-count-clause-rest g c = λ told.
     let left = g.R.Source.left c.args.r.now in
     exit_with (TakesFailedHeader c.args.max_chunk left (g.R.Source.left c.read_prefix.new.source)) _ _ c.from_residual.ensures.1
     (record {
-      consumed = c.in_err-count.ensures.told told;
+      consumed = failed_prefix left _ _ (c.in_err-count.ensures.told told);
       header = λ fails. absurd (no_reading _ (inl c.in_err-count.ensures.errors) (header_in_checks c.args.max_chunk left _ fails));
     })
 

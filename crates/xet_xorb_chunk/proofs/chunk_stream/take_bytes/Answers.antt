@@ -1,6 +1,6 @@
 use Rattle.std.proofs.Common.{◌∙◌, ap, arith, rules, take}
 use Rattle.xet_xorb_chunk.proofs.Blocks.{block_taken}
-use Rattle.xet_xorb_chunk.proofs.Prefixes.{fills_prefix, taken_prefix, prefix_then}
+use Rattle.xet_xorb_chunk.proofs.Prefixes.{failed_prefix, fills_prefix, taken_prefix, prefix_then}
 use Rattle.xet_xorb_chunk.proofs.chunk_stream.take_bytes.Goals as goal
 
 pub reads-preserved : goal.reads-preserved
@@ -23,7 +23,7 @@ returns-in_err-count-clause-consumed g c = λ told.
     let i = c.reads.invariant in
     let left = g.R.Source.left c.args.r.now in
     let middle = g.R.Source.left c.reads.r in
-    prefix_then left middle (g.R.Source.left c.fill_behind.new.source) (taken_prefix left c.reads.bytes.items middle (i.read told)) (c.in_err-count.ensures.told (i.tells ∙ told))
+    prefix_then left middle (g.R.Source.left c.fill_behind.new.source) (taken_prefix left c.reads.bytes.items middle (i.read told)) (failed_prefix middle _ _ (c.in_err-count.ensures.told (i.tells ∙ told)))
 
 pub returns-then-count-len-clause-consumed : goal.returns-then-count-len-clause-consumed
 returns-then-count-len-clause-consumed g c = λ told.

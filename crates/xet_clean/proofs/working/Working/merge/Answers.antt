@@ -1,5 +1,7 @@
 use Rattle.std.proofs.Common.{ℕ, ◌+◌, ◌*◌, List, length, map, subst, sym, arith}
+use Rattle.std.specs.List.{AllByRecursion}
 use Rattle.xet_base.specs.theorems.Exits.{exit_with}
+use Rattle.xet_dedup_queries.specs.Counting.{HasNext}
 use Rattle.xet_steps.specs.theorems.Following.{follows_nothing}
 use Rattle.xet_xorb_chunk.specs.Chunks.{chunk_leaf}
 use Rattle.xet_clean.specs.Closing.{IsUnclosed}
@@ -21,4 +23,4 @@ returns-in_err-add-clause-refused g c =
     let a = c.args.self.now.aggregate in
     let h = g.S.Stepping.holder c.args.steps.now in
     let next : List (List ℕ × ℕ) = map chunk_leaf c.args.part.aggregate.chunks in
-    exit_with (IsUnclosed a next h h) _ _ c.from_residual.ensures.1 (subst (IsUnclosed a next h h) (sym c.in_err-add.ensures.memory) (unclosed_nothing a next h))
+    exit_with (IsUnclosed (AllByRecursion HasNext) a next h h) _ _ c.from_residual.ensures.1 (subst (IsUnclosed (AllByRecursion HasNext) a next h h) (sym c.in_err-add.ensures.memory) (unclosed_nothing (AllByRecursion HasNext) tt a next h))

@@ -116,4 +116,4 @@ returns-clause-made g c =
 pub returns-clause-failed : goal.returns-clause-failed
 returns-clause-failed g c =
     subst (λ (s : RecordedState). IfErr c.complete_by-result.result (HasFailed c.args.pass.now.number s c.complete_by-result.new.self)) c.self.view_is
-    (subst (λ (h : Holder). IfErr c.complete_by-result.result (HasFailed h.number c.self.inside.store c.complete_by-result.new.self)) c.pass.view_is (completed_fails c.pass.inside.number c.self.inside.store c.complete_by-result.new.self c.args.file c.requires.form c.complete_by-result.result c.complete_by-result.ensures.refused))
+    (subst (λ (h : Holder). IfErr c.complete_by-result.result (HasFailed h.number c.self.inside.store c.complete_by-result.new.self)) c.pass.view_is (completed_fails c.pass.inside.number c.self.inside.store c.complete_by-result.new.self c.args.file c.requires.form c.complete_by-result.result c.complete_by-result.ensures.refused c.complete_by-result.ensures.tries))

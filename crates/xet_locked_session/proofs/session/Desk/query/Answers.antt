@@ -111,4 +111,4 @@ returns-clause-made g c =
 pub returns-clause-failed : goal.returns-clause-failed
 returns-clause-failed g c =
     subst (λ (s : RecordedState). IfErr c.query_by-result.result (HasFailed c.args.pass.now.number s c.query_by-result.new.self)) c.self.view_is
-    (subst (λ (h : Holder). IfErr c.query_by-result.result (HasFailed h.number c.self.inside.store c.query_by-result.new.self)) c.pass.view_is (asked_fails c.pass.inside.number c.self.inside.store c.query_by-result.new.self c.query_by-result.result c.query_by-result.ensures.refused))
+    (subst (λ (h : Holder). IfErr c.query_by-result.result (HasFailed h.number c.self.inside.store c.query_by-result.new.self)) c.pass.view_is (asked_fails c.pass.inside.number c.self.inside.store c.query_by-result.new.self c.query_by-result.result c.query_by-result.ensures.refused c.query_by-result.ensures.unread))

@@ -114,4 +114,4 @@ pub returns-clause-failed : goal.returns-clause-failed
 returns-clause-failed g c =
     let same : c.args.pass.now.limits ≡ c.self.inside.store.store.limits = sym (c.recall_invariant.ensures.since.steps.keeps.limits ∙ ap (λ (h : Holder). h.limits) c.pass.view_is) in
     subst (λ (s : RecordedState). IfErr c.register_by-result.result (HasFailed c.args.pass.now.number s c.register_by-result.new.self)) c.self.view_is
-    (subst (λ (h : Holder). IfErr c.register_by-result.result (HasFailed h.number c.self.inside.store c.register_by-result.new.self)) c.pass.view_is (registered_fails c.pass.inside.number c.self.inside.store c.register_by-result.new.self c.args.pass.now.limits same c.args.xorb c.requires.new c.register_by-result.result c.register_by-result.ensures.refused))
+    (subst (λ (h : Holder). IfErr c.register_by-result.result (HasFailed h.number c.self.inside.store c.register_by-result.new.self)) c.pass.view_is (registered_fails c.pass.inside.number c.self.inside.store c.register_by-result.new.self c.args.pass.now.limits same c.args.xorb c.requires.new c.args.next.now c.register_by-result.result c.register_by-result.ensures.refused c.register_by-result.ensures.tries))

@@ -8,6 +8,11 @@ use Rattle.xet_xorb.specs.Raw.{raw_leaves}
 use Rattle.xet_locked_session.specs.internal.Made.{Grew, Registered}
 use Rattle.xet_locked_session.proofs.Made.{grew_nothing, grew_register, nothing_refused, registered_of}
 use Rattle.xet_locked_session.proofs.Since.{since_more}
+use Rattle.std.proofs.Common.{[], OnErr, refl}
+use Rattle.xet_codec.specs.theorems.Buffering.{on_err}
+use Rattle.xet_history.specs.History.{register_entries}
+use Rattle.xet_steps.specs.Changes.{Tries}
+use Rattle.xet_steps.specs.theorems.Changing.{changes_nothing}
 use Rattle.xet_locked_session.proofs.session.NamedStore.register_by.Goals as goal
 
 pub returns-in_err-reserve-clause-refused : goal.returns-in_err-reserve-clause-refused
@@ -20,7 +25,7 @@ pub invariant_of-self : goal.invariant_of-self
 invariant_of-self g c = since_more g.J.Naming.store c.self.inside.store c.register_xorb_by.new.self c.args.pass c.register_xorb_by.result c.self.invariant (grew_register c.args.pass c.self.inside.store c.register_xorb_by.new.self c.self.inside.store.store.limits.shard_target (raw_leaves c.args.xorb) c.args.next.now c.register_xorb_by.result c.register_xorb_by.ensures.steps c.register_xorb_by.ensures.refused)
 
 pub returns-clause-registered : goal.returns-clause-registered
-returns-clause-registered g c = subst (λ (s : RecordedState). IfOk c.register_xorb_by.result (Registered c.args.pass (raw_leaves c.args.xorb) c.args.next.now s c.register_xorb_by.new.self)) c.self.view_is (registered_of c.args.pass (raw_leaves c.args.xorb) c.args.next.now c.self.inside.store c.register_xorb_by.new.self c.register_xorb_by.result c.register_xorb_by.ensures.steps c.register_xorb_by.ensures.added c.register_xorb_by.ensures.listed c.register_xorb_by.ensures.named)
+returns-clause-registered g c = subst (λ (s : RecordedState). IfOk c.register_xorb_by.result (Registered c.args.pass (raw_leaves c.args.xorb) c.args.next.now s c.register_xorb_by.new.self)) c.self.view_is (registered_of c.args.pass (raw_leaves c.args.xorb) c.args.next.now c.self.inside.store c.register_xorb_by.new.self c.register_xorb_by.result c.register_xorb_by.ensures.steps c.register_xorb_by.ensures.changes c.register_xorb_by.ensures.added c.register_xorb_by.ensures.listed c.register_xorb_by.ensures.named)
 
 pub returns-clause-grew : goal.returns-clause-grew
 returns-clause-grew g c = subst (λ (s : RecordedState). Grew c.args.pass c.register_xorb_by.result s c.register_xorb_by.new.self) c.self.view_is (grew_register c.args.pass c.self.inside.store c.register_xorb_by.new.self c.self.inside.store.store.limits.shard_target (raw_leaves c.args.xorb) c.args.next.now c.register_xorb_by.result c.register_xorb_by.ensures.steps c.register_xorb_by.ensures.refused)
@@ -35,3 +40,9 @@ returns-clause-room g c =
       ap (λ (s : RecordedState). length s.history) c.self.view_is,
     ) in
     omega (arith, more, grew.few, c.in_ok-reserve.ensures.len, c.in_ok-reserve.ensures.ok)
+
+pub returns-in_err-reserve-clause-tries : goal.returns-in_err-reserve-clause-tries
+returns-in_err-reserve-clause-tries g c = on_err c.from_residual.result (changes_nothing _ c.args.self.now c.args.self.now [] refl)
+
+pub returns-clause-tries : goal.returns-clause-tries
+returns-clause-tries g c = subst (λ (s : RecordedState). OnErr c.register_xorb_by.result (Tries s c.register_xorb_by.new.self (register_entries c.args.pass (core_of s) s.store.limits.shard_target (raw_leaves c.args.xorb) c.args.next.now))) c.self.view_is c.register_xorb_by.ensures.tries

@@ -64,6 +64,7 @@ loop-done-preserved g c =
           block_agrees (map (kept_hash c.args.key.now) c.args.query.now) c.args.end (rows_in c.args.count (drop c.args.at whole)) _ c.loop-done.done c.loop-done.to some.result (c.loop-done.invariant.so_far told le) found.found found.next
           (sym (found.ensures.exact ∙ block)) (omega (arith, found.ensures.within, c.if-found-some.false));
       within = omega (arith, found.ensures.within, some.ensures.rows);
+      hashes = omega (arith, found.ensures.within, some.ensures.hashes, c.if-done-query.true);
       behind = omega (arith, found.ensures.behind, c.loop-done.invariant.behind);
     }
 

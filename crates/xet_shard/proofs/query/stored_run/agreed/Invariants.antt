@@ -15,6 +15,7 @@ invariant-loop-done g l = record {
   so_far : g.R.ReadAt.tells l.fn.reader ≡ true → l.at + 48 * l.count ≤ length (g.R.ReadAt.bytes l.fn.reader)
       → SoFar (map (kept_hash l.key) l.query) l.end (rows_in l.count (drop l.at (g.R.ReadAt.bytes l.fn.reader))) (agreed (map (kept_hash l.key) l.query) l.end l.from (rows_in l.count (drop l.at (g.R.ReadAt.bytes l.fn.reader)))) l.done l.to;
   within : l.done ≤ l.count;
+  hashes : l.done ≤ length l.query;
   behind : l.from ≤ l.to;
 }
 

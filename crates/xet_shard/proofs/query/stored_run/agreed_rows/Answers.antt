@@ -38,6 +38,7 @@ loop-done-preserved c =
       so_far = row_agrees ks c.args.end rows _ c.loop-done.done c.loop-done.to c.in_ok-to.to c.kept_hash.result c.row_of-row.result (query_left keep c.args.query.now c.loop-done.done _ c.kept_hash.result c.if-done-query.true c.index-query-done.is c.kept_hash.ensures)
           (row_here c.loop-done.done c.args.count c.args.bytes.now _ c.row_of-row.result c.loop-done-test.true c.requires c.row_of-row.ensures refl) same (sym c.in_ok-to.ensures.exact) c.loop-done.invariant.so_far;
       within = omega arith;
+      hashes = omega (arith, c.if-done-query.true);
       behind = omega (arith, c.in_ok-to.ensures.behind, c.loop-done.invariant.behind);
     }
 

@@ -1,4 +1,4 @@
-use Rattle.std.proofs.Common.{◌-◌, ◌≤◌, map}
+use Rattle.std.proofs.Common.{◌-◌, ◌≤◌, length, map}
 use Rattle.xet_shard.specs.Queries.{kept_hash}
 use Rattle.xet_shard_format.specs.Rows.{rows_in}
 use Rattle.xet_shard.specs.Runs.{agreed}
@@ -9,6 +9,7 @@ abbrev pub invariant-loop-done : goal.invariant-loop-done
 invariant-loop-done l = record {
   so_far : SoFar (map (kept_hash l.key) l.query) l.end (rows_in l.count l.bytes) (agreed (map (kept_hash l.key) l.query) l.end l.from (rows_in l.count l.bytes)) l.done l.to;
   within : l.done ≤ l.count;
+  hashes : l.done ≤ length l.query;
   behind : l.from ≤ l.to;
 }
 

@@ -1,0 +1,5 @@
+//! The modules of tests.
+
+mod damage_tests;
+mod reading_tests;
+mod samples;
