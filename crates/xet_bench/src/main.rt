@@ -38,7 +38,7 @@ use xet_clean::{Cleaned, clean_files};
 use xet_cut::{LimitSettings, Limits, gear_table, generated};
 use xet_hash::{MerkleHash, StoreError, compute_data_hash};
 use xet_io::{MemoryDisk, SliceSource};
-use xet_steps::Store;
+use xet_store::Store;
 
 /// The maximum number of mebibytes of a file.
 const MAX: u64 = 1 << 12;

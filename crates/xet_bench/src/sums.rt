@@ -6,7 +6,7 @@ use std::println;
 use xet_cut::{LimitSettings, Limits, gear_table};
 use xet_fs::FolderDisk;
 use xet_hash::{MerkleHash, StoreError};
-use xet_steps::Store;
+use xet_store::Store;
 
 /// The number of bytes of a mebibyte.
 const MEBIBYTE: u64 = 1 << 20;

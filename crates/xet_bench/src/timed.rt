@@ -10,7 +10,7 @@ use std::time::{Clock, Instant};
 use xet_cut::{LimitSettings, Limits, gear_table};
 use xet_hash::{MerkleHash, StoreError, compute_data_hash, compute_internal_node_hash, xorb_hash};
 use xet_io::MemoryDisk;
-use xet_steps::Store;
+use xet_store::Store;
 
 /// What is timed.
 #[derive(Clone, Copy, PartialEq, Eq)]

@@ -7,11 +7,11 @@ use Rattle.xet_choices.specs.declared.choice.Choice.{Choice}
 use Rattle.xet_dedup.specs.Deduping.{metrics_of, metrics_of_both, open_indices}
 use Rattle.xet_dedup.specs.Records.{file_record}
 use Rattle.xet_dedup.specs.theorems.Forms.{finalized_are_files}
-use Rattle.xet_store.specs.declared.info.XetFileInfo.{XetFileInfo}
+use Rattle.xet_store_disk.specs.declared.info.XetFileInfo.{XetFileInfo}
 use Rattle.xet_xorb_chunk.specs.Chunks.{chunk_leaf}
-use Rattle.xet_steps.specs.Interface.{Stands}
-use Rattle.xet_steps.specs.Holders.{Holder, calls_of, core_at, lengths_in, xorb_limits}
-use Rattle.xet_steps.specs.theorems.Following.{follows_nothing}
+use Rattle.xet_store.specs.Interface.{Stands}
+use Rattle.xet_store.specs.Holders.{Holder, calls_of, core_at, lengths_in, xorb_limits}
+use Rattle.xet_store.specs.theorems.Following.{follows_nothing}
 use Rattle.xet_cut.specs.declared.limits.LimitSettings.{LimitSettings}
 use Rattle.xet_clean.specs.Cleaning.{metrics_sum}
 use Rattle.xet_clean.specs.Files.{leaves_in}

@@ -10,8 +10,8 @@ use Rattle.xet_dedup_queries.specs.theorems.Counting.{entries_at_most-append}
 use Rattle.xet_dedup_queries.specs.declared.places.DedupError.{DedupError}
 use Rattle.xet_dedup_queries.specs.declared.places.DedupError.TheVariants.{Interface, OutOfMemory}
 use Rattle.xet_hash.specs.declared.error.StoreError.{StoreError}
-use Rattle.xet_steps.specs.Interface.{IsErrorSince, IsRefused}
-use Rattle.xet_steps.specs.Holders.{FollowsAsking, Holder, calls_of}
+use Rattle.xet_store.specs.Interface.{IsErrorSince, IsRefused}
+use Rattle.xet_store.specs.Holders.{FollowsAsking, Holder, calls_of}
 use Rattle.xet_xorb_chunk.specs.Chunks.{chunk_leaf}
 use Rattle.xet_xorb_chunk.specs.declared.chunk.Chunk.{Chunk}
 use Rattle.xet_clean.specs.Cleaner.{IsBatchOf, StopsInBatch}

@@ -6,9 +6,9 @@ use Rattle.xet_cut.specs.declared.limits.LimitSettings.{LimitSettings}
 use Rattle.xet_cut.specs.theorems.FirstBoundary.{none_in_nothing}
 use Rattle.xet_dedup.specs.Deduping.{IsDeduped}
 use Rattle.xet_file_plan.specs.Moves.{PlanState, empty_plan}
-use Rattle.xet_steps.specs.Interface.{Stands}
-use Rattle.xet_steps.specs.Holders.{Holder, calls_of, core_at, lengths_in, xorb_limits}
-use Rattle.xet_steps.specs.theorems.Following.{asking_nothing, follows_nothing}
+use Rattle.xet_store.specs.Interface.{Stands}
+use Rattle.xet_store.specs.Holders.{Holder, calls_of, core_at, lengths_in, xorb_limits}
+use Rattle.xet_store.specs.theorems.Following.{asking_nothing, follows_nothing}
 use Rattle.xet_clean.specs.Cleaner.{IsCleaning}
 use Rattle.xet_aggregate.specs.Aggregate.{empty}
 use Rattle.xet_aggregate.specs.Metrics.{zeros}

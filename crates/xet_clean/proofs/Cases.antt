@@ -23,11 +23,11 @@ use Rattle.xet_file_plan.specs.theorems.Since.{calls_since}
 use Rattle.xet_dedup_queries.specs.Registering.{max_chunk_len}
 use Rattle.xet_hash.specs.Merkle.{chunk_hash, xorb_hash}
 use Rattle.xet_shard_format.specs.declared.record.MDBFileInfo.{MDBFileInfo}
-use Rattle.xet_store.specs.declared.info.XetFileInfo.{XetFileInfo}
+use Rattle.xet_store_disk.specs.declared.info.XetFileInfo.{XetFileInfo}
 use Rattle.xet_xorb_chunk.specs.Chunks.{chunk_leaf, total}
 use Rattle.xet_xorb_chunk.specs.declared.chunk.Chunk.{Chunk}
-use Rattle.xet_steps.specs.Interface.{Stands}
-use Rattle.xet_steps.specs.Holders.{Follows, Holder, calls_in, calls_of, core_at, lengths_in, xorb_limits}
+use Rattle.xet_store.specs.Interface.{Stands}
+use Rattle.xet_store.specs.Holders.{Follows, Holder, calls_in, calls_of, core_at, lengths_in, xorb_limits}
 use Rattle.xet_clean.specs.Cleaning.{Lands}
 use Rattle.xet_clean.specs.Planning.{IsPlanned, IsWithin}
 use Rattle.xet_clean.specs.Closing.{Closes, HaveForm, filled_files}

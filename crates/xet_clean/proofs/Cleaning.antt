@@ -12,8 +12,8 @@ use Rattle.xet_dedup.specs.Deduping.{IsChunk, IsDeduped}
 use Rattle.xet_file_plan.specs.Kept.{max_chunks}
 use Rattle.xet_file_plan.specs.Moves.{PlanState}
 use Rattle.xet_hash.specs.Merkle.{leaves_of, total_len}
-use Rattle.xet_steps.specs.Interface.{Stands}
-use Rattle.xet_steps.specs.Holders.{FollowsAsking, Holder, calls_of, core_at, lengths_in, xorb_limits}
+use Rattle.xet_store.specs.Interface.{Stands}
+use Rattle.xet_store.specs.Holders.{FollowsAsking, Holder, calls_of, core_at, lengths_in, xorb_limits}
 use Rattle.xet_xorb_chunk.specs.Chunks.{chunk_leaf, chunk_of}
 use Rattle.xet_xorb_chunk.specs.declared.chunk.Chunk.{Chunk}
 use Rattle.xet_clean.specs.Files.{leaves_in}

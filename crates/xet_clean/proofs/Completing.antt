@@ -21,9 +21,9 @@ use Rattle.xet_history.specs.declared.entry.Entry.{Entry}
 use Rattle.xet_history.specs.declared.entry.StepKind.TheVariants as step
 use Rattle.xet_shard_format.specs.Records.{IsFile}
 use Rattle.xet_shard_format.specs.declared.record.MDBFileInfo.{MDBFileInfo}
-use Rattle.xet_steps.specs.Interface.{IsErrorSince}
-use Rattle.xet_steps.specs.Holders.{Holder, calls_in, xorb_limits}
-use Rattle.xet_steps.specs.Stepping.{SawComplete, SawError, SawRegister, cut_to_register}
+use Rattle.xet_store.specs.Interface.{IsErrorSince}
+use Rattle.xet_store.specs.Holders.{Holder, calls_in, xorb_limits}
+use Rattle.xet_store.specs.Stepping.{SawComplete, SawError, SawRegister, cut_to_register}
 use Rattle.xet_xorb.specs.Raw.{raw_leaves, raw_of}
 use Rattle.xet_xorb.specs.declared.raw.RawXorbData.{RawXorbData}
 use Rattle.xet_xorb_chunk.specs.Chunks.{chunk_leaf, total}

@@ -8,8 +8,8 @@ use Rattle.xet_choices.specs.theorems.Calls.{queries_of-append}
 use Rattle.xet_cut.specs.declared.limits.LimitSettings.{LimitSettings}
 use Rattle.xet_dedup_queries.specs.Counting.{HasNext, LandsIn, entries_at_most}
 use Rattle.xet_dedup_queries.specs.theorems.Counting.{entries_at_most-append, lands_in-append}
-use Rattle.xet_steps.specs.Holders.{Follows, FollowsAsking, Holder, calls_in, calls_of}
-use Rattle.xet_steps.specs.theorems.Following.{asking_then}
+use Rattle.xet_store.specs.Holders.{Follows, FollowsAsking, Holder, calls_in, calls_of}
+use Rattle.xet_store.specs.theorems.Following.{asking_then}
 use Rattle.xet_clean.specs.Files.{leaves_in}
 use Rattle.xet_clean.specs.Planning.{IsFew}
 use Rattle.xet_clean.specs.Cleaner.{IsBatchOf, StopsInBatch}

@@ -10,8 +10,8 @@ use Rattle.xet_dedup.specs.Records.{file_record}
 use Rattle.xet_dedup_queries.specs.Counting.{HasNext}
 use Rattle.xet_file_plan.specs.Moves.{PlanState}
 use Rattle.xet_hash.specs.Merkle.{file_hash}
-use Rattle.xet_store.specs.declared.info.XetFileInfo.{XetFileInfo}
-use Rattle.xet_steps.specs.Holders.{Holder}
+use Rattle.xet_store_disk.specs.declared.info.XetFileInfo.{XetFileInfo}
+use Rattle.xet_store.specs.Holders.{Holder}
 use Rattle.xet_clean.specs.Files.{leaves_in}
 use Rattle.xet_clean.specs.Planning.{IsFew, IsFinished, IsPlanned}
 use Rattle.xet_clean.specs.Policies.{info_with}

@@ -4,9 +4,9 @@ use Rattle.std.proofs.lemmas.List.{nil_from_length}
 use Rattle.xet_aggregate.specs.Aggregate.{Aggregate}
 use Rattle.xet_aggregate.specs.declared.metrics.DeduplicationMetrics.{DeduplicationMetrics}
 use Rattle.xet_choices.specs.declared.choice.Choice.{Choice}
-use Rattle.xet_store.specs.Cleaning.{AreTaken, EachTold, Later}
-use Rattle.xet_store.specs.declared.info.XetFileInfo.{XetFileInfo}
-use Rattle.xet_steps.specs.Holders.{Holder}
+use Rattle.xet_store_disk.specs.Cleaning.{AreTaken, EachTold, Later}
+use Rattle.xet_store_disk.specs.declared.info.XetFileInfo.{XetFileInfo}
+use Rattle.xet_store.specs.Holders.{Holder}
 use Rattle.xet_clean.specs.Closing.{Closes}
 use Rattle.xet_clean.specs.Sources.{AreDone, AreRead, HasCleaned}
 use Rattle.xet_clean.specs.Working.{EndsWith, Planned}

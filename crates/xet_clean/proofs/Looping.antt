@@ -22,10 +22,10 @@ use Rattle.xet_hash.specs.declared.error.StoreError.TheVariants.{Io, MalformedDa
 use Rattle.xet_hash.specs.declared.error.What.TheVariants as what
 use Rattle.xet_history.specs.declared.entry.Entry.{Entry}
 use Rattle.xet_io.specs.Faults.{Rose}
-use Rattle.xet_store.specs.Cleaning.{AreTaken, FailedAt, IsLongAt, Later, RoseAt}
-use Rattle.xet_store.specs.declared.info.XetFileInfo.{XetFileInfo}
-use Rattle.xet_steps.specs.Holders.{Follows, FollowsAsking, Holder, calls_in}
-use Rattle.xet_steps.specs.theorems.Following.{calls_in-append, follows_nothing, follows_then}
+use Rattle.xet_store_disk.specs.Cleaning.{AreTaken, FailedAt, IsLongAt, Later, RoseAt}
+use Rattle.xet_store_disk.specs.declared.info.XetFileInfo.{XetFileInfo}
+use Rattle.xet_store.specs.Holders.{Follows, FollowsAsking, Holder, calls_in}
+use Rattle.xet_store.specs.theorems.Following.{calls_in-append, follows_nothing, follows_then}
 use Rattle.xet_xorb_chunk.specs.Chunks.{chunk_leaf}
 use Rattle.xet_clean.specs.Planning.{IsFew, IsPlanned, IsWithin}
 use Rattle.xet_clean.specs.Cleaning.{ClosesLast}

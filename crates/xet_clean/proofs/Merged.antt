@@ -19,9 +19,9 @@ use Rattle.xet_dedup.specs.Deduping.{metrics_of_both}
 use Rattle.xet_dedup_queries.specs.Counting.{HasNext}
 use Rattle.xet_hash.specs.declared.error.StoreError.{StoreError}
 use Rattle.xet_shard_format.specs.declared.record.MDBFileInfo.{MDBFileInfo}
-use Rattle.xet_steps.specs.Holders.{Follows, Holder, calls_in}
-use Rattle.xet_steps.specs.theorems.Following.{calls_in-append, follows_nothing, follows_then}
-use Rattle.xet_store.specs.declared.info.XetFileInfo.{XetFileInfo}
+use Rattle.xet_store.specs.Holders.{Follows, Holder, calls_in}
+use Rattle.xet_store.specs.theorems.Following.{calls_in-append, follows_nothing, follows_then}
+use Rattle.xet_store_disk.specs.declared.info.XetFileInfo.{XetFileInfo}
 use Rattle.xet_xorb_chunk.specs.Chunks.{chunk_leaf, total}
 use Rattle.xet_clean.specs.Cleaning.{ClosesLast, RegistersPart, close_of}
 use Rattle.xet_clean.specs.Closing.{AnyCalls, Closes, HaveForm, IsAtMost, IsUnclosed, Joins, filled_files, recorded_in}

@@ -11,7 +11,7 @@ use Rattle.xet_base.specs.theorems.Elements.{all_back, all_both, all_more}
 use Rattle.xet_hash.specs.Merkle.{xorb_hash}
 use Rattle.xet_history.specs.declared.entry.Entry.{Entry}
 use Rattle.xet_shard_format.specs.declared.record.MDBFileInfo.{MDBFileInfo}
-use Rattle.xet_steps.specs.Holders.{Follows, Holder}
+use Rattle.xet_store.specs.Holders.{Follows, Holder}
 use Rattle.xet_xorb_chunk.specs.Chunks.{chunk_leaf}
 use Rattle.xet_xorb_chunk.specs.declared.chunk.Chunk.{Chunk}
 use Rattle.xet_clean.specs.Closing.{filled_files, recorded_in}

@@ -16,16 +16,16 @@ use Rattle.xet_hash.specs.declared.error.What.TheVariants as what
 use Rattle.xet_history.specs.Core.{Core, RegisteredShard, has_pending}
 use Rattle.xet_history.specs.declared.entry.Entry.{Entry}
 use Rattle.xet_history.specs.declared.entry.Entry.TheVariants.{Fault}
-use Rattle.xet_steps.specs.Recorded.{IsRecorded, RecordedState, core_of}
-use Rattle.xet_store.specs.Cleaning.{Adds, EachTold, HasFile, Keeps, chunkings, info_of}
-use Rattle.xet_store.specs.Separate.{Among, Separate}
-use Rattle.xet_store.specs.Store.{Sound, plan_of}
-use Rattle.xet_store.specs.declared.info.XetFileInfo.{XetFileInfo}
-use Rattle.xet_store.specs.theorems.Files.{files_all, told_more}
-use Rattle.xet_store.specs.theorems.Rows.{from_among, to_among}
-use Rattle.xet_steps.specs.Alone.{AloneState, IsAlone, IsFault, alone_of}
-use Rattle.xet_steps.specs.Interface.{HasFault}
-use Rattle.xet_steps.specs.Holders.{Follows, Holder, core_at, numbered}
+use Rattle.xet_store.specs.Recorded.{IsRecorded, RecordedState, core_of}
+use Rattle.xet_store_disk.specs.Cleaning.{Adds, EachTold, HasFile, Keeps, chunkings, info_of}
+use Rattle.xet_store_disk.specs.Separate.{Among, Separate}
+use Rattle.xet_store_disk.specs.Store.{Sound, plan_of}
+use Rattle.xet_store_disk.specs.declared.info.XetFileInfo.{XetFileInfo}
+use Rattle.xet_store_disk.specs.theorems.Files.{files_all, told_more}
+use Rattle.xet_store_disk.specs.theorems.Rows.{from_among, to_among}
+use Rattle.xet_store.specs.Alone.{AloneState, IsAlone, IsFault, alone_of}
+use Rattle.xet_store.specs.Interface.{HasFault}
+use Rattle.xet_store.specs.Holders.{Follows, Holder, core_at, numbered}
 use Rattle.xet_clean.specs.Cleaning.{Grows, HasReason, IsBounded, IsCleaned, entries_since}
 use Rattle.xet_clean.specs.Sources.{AreRead, IsLoopError, IsShort}
 use Rattle.xet_clean.specs.Working.{EndsWith, Planned}

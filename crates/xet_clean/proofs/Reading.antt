@@ -7,9 +7,9 @@ use Rattle.xet_hash.specs.declared.error.StoreError.TheVariants.{Io, TooLarge}
 use Rattle.xet_hash.specs.declared.error.What.TheVariants as what
 use Rattle.xet_io.specs.Faults.{Rose}
 use Rattle.xet_io.specs.Whole.{FillsWith}
-use Rattle.xet_steps.specs.Interface.{IsErrorSince}
-use Rattle.xet_steps.specs.Holders.{Follows, Holder}
-use Rattle.xet_steps.specs.theorems.Following.{asking_nothing, follows_nothing}
+use Rattle.xet_store.specs.Interface.{IsErrorSince}
+use Rattle.xet_store.specs.Holders.{Follows, Holder}
+use Rattle.xet_store.specs.theorems.Following.{asking_nothing, follows_nothing}
 use Rattle.xet_clean.specs.Planning.{IsFew}
 use Rattle.xet_clean.specs.Errors.{IsCleanerError}
 use Rattle.xet_clean.specs.Sources.{IsSourceError, Takes}

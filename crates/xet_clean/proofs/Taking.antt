@@ -17,9 +17,9 @@ use Rattle.xet_cut.specs.declared.limits.LimitSettings.{LimitSettings}
 use Rattle.xet_dedup.specs.Deduping.{metrics_of_both}
 use Rattle.xet_dedup.specs.theorems.Forms.{merged_are_files}
 use Rattle.xet_shard_format.specs.declared.record.MDBFileInfo.{MDBFileInfo}
-use Rattle.xet_steps.specs.Holders.{Holder, calls_in}
-use Rattle.xet_steps.specs.theorems.Following.{calls_in-append, follows_then}
-use Rattle.xet_store.specs.declared.info.XetFileInfo.{XetFileInfo}
+use Rattle.xet_store.specs.Holders.{Holder, calls_in}
+use Rattle.xet_store.specs.theorems.Following.{calls_in-append, follows_then}
+use Rattle.xet_store_disk.specs.declared.info.XetFileInfo.{XetFileInfo}
 use Rattle.xet_xorb_chunk.specs.Chunks.{chunk_leaf}
 use Rattle.xet_clean.specs.Cleaning.{Lands, metrics_sum}
 use Rattle.xet_clean.specs.Closing.{Closes, HaveForm, Joins, filled_files, recorded_in}

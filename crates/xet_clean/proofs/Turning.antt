@@ -12,8 +12,8 @@ use Rattle.xet_dedup_queries.specs.Counting.{HasNext as Further}
 use Rattle.xet_file_plan.specs.Moves.{PlanState}
 use Rattle.xet_hash.specs.declared.error.StoreError.{StoreError}
 use Rattle.xet_io.specs.Frame.{Stays}
-use Rattle.xet_store.specs.declared.info.XetFileInfo.{XetFileInfo}
-use Rattle.xet_steps.specs.Holders.{FollowsAsking, Holder, calls_in}
+use Rattle.xet_store_disk.specs.declared.info.XetFileInfo.{XetFileInfo}
+use Rattle.xet_store.specs.Holders.{FollowsAsking, Holder, calls_in}
 use Rattle.xet_xorb_chunk.specs.Chunks.{chunk_leaf}
 use Rattle.xet_clean.specs.Planning.{IsFew, IsFinished}
 use Rattle.xet_clean.specs.Closing.{Closes, IsAtMost, IsUnclosed, RegistersAtMost}

@@ -5,9 +5,9 @@ use Rattle.xet_choices.specs.Calls.{Call}
 use Rattle.xet_hash.specs.declared.error.Reason.TheVariants.{OtherFileHash}
 use Rattle.xet_hash.specs.declared.error.StoreError.{StoreError}
 use Rattle.xet_hash.specs.declared.error.StoreError.TheVariants.{MalformedData}
-use Rattle.xet_steps.specs.Interface.{IsErrorSince}
-use Rattle.xet_steps.specs.Holders.{Follows, Holder}
-use Rattle.xet_steps.specs.theorems.Following.{follows_nothing, follows_then}
+use Rattle.xet_store.specs.Interface.{IsErrorSince}
+use Rattle.xet_store.specs.Holders.{Follows, Holder}
+use Rattle.xet_store.specs.theorems.Following.{follows_nothing, follows_then}
 use Rattle.xet_clean.specs.Closing.{IsClosingError, IsUnclosed, RegistersChunks, filled_files}
 use Rattle.xet_xorb_chunk.specs.Chunks.{chunk_leaf}
 use Rattle.xet_clean.specs.theorems.Adding.{adds_registered}

@@ -9,8 +9,8 @@ use Rattle.xet_dedup.specs.Deduping.{IsDeduped}
 use Rattle.xet_file_plan.specs.Moves.{PlanState}
 use Rattle.xet_hash.specs.Merkle.{leaves_of, total_len}
 use Rattle.xet_xorb_chunk.specs.Chunks.{chunk_leaf}
-use Rattle.xet_steps.specs.Interface.{Stands}
-use Rattle.xet_steps.specs.Holders.{Follows, FollowsAsking, Holder, calls_in, calls_of, core_at, xorb_limits, lengths_in}
+use Rattle.xet_store.specs.Interface.{Stands}
+use Rattle.xet_store.specs.Holders.{Follows, FollowsAsking, Holder, calls_in, calls_of, core_at, xorb_limits, lengths_in}
 
 -- These bytes of a file came since its deduplication began. They are split into chunks, which are placed, and into what is
 -- buffered. There was at most one query for each chunk, and each registration has

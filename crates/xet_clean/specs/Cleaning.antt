@@ -26,18 +26,18 @@ use Rattle.xet_shard_format.specs.declared.record.FileDataSequenceEntry.{FileDat
 use Rattle.xet_shard_format.specs.declared.record.MDBFileInfo.{MDBFileInfo}
 use Rattle.xet_io.specs.Faults.{Rose}
 use Rattle.xet_shard.specs.Queries.{kept_hash}
-use Rattle.xet_steps.specs.Recorded.{RecordedState, core_of}
-use Rattle.xet_steps.specs.Steps.{Steps}
-use Rattle.xet_store.specs.Cleaning.{Adds, EachTold, FailedAt, HasFile, IsLongAt, RoseAt, chunkings, info_of}
-use Rattle.xet_store.specs.Separate.{Among, MetChunk, Separate}
-use Rattle.xet_store.specs.Store.{plan_of}
-use Rattle.xet_store.specs.declared.info.XetFileInfo.{XetFileInfo}
-use Rattle.xet_steps.specs.Alone.{IsFault, StepsTo, StepsUntil}
+use Rattle.xet_store.specs.Recorded.{RecordedState, core_of}
+use Rattle.xet_store.specs.Steps.{Steps}
+use Rattle.xet_store_disk.specs.Cleaning.{Adds, EachTold, FailedAt, HasFile, IsLongAt, RoseAt, chunkings, info_of}
+use Rattle.xet_store_disk.specs.Separate.{Among, MetChunk, Separate}
+use Rattle.xet_store_disk.specs.Store.{plan_of}
+use Rattle.xet_store_disk.specs.declared.info.XetFileInfo.{XetFileInfo}
+use Rattle.xet_store.specs.Alone.{IsFault, StepsTo, StepsUntil}
 use Rattle.xet_clean.specs.Files.{HasChoices, leaves_in}
 use Rattle.xet_clean.specs.Policies.{info_by, sha256_by}
 use Rattle.xet_clean.specs.declared.policy.Sha256Policy.{Sha256Policy}
 use Rattle.xet_history.specs.Sound.{IsKey}
-use Rattle.xet_steps.specs.Holders.{calls_in, numbered}
+use Rattle.xet_store.specs.Holders.{calls_in, numbered}
 
 -- ---- the history
 

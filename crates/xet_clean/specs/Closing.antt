@@ -10,10 +10,10 @@ use Rattle.xet_history.specs.declared.entry.Entry.{Entry}
 use Rattle.xet_shard_format.specs.Records.{IsFile}
 use Rattle.xet_shard_format.specs.declared.record.MDBFileInfo.{MDBFileInfo}
 use Rattle.xet_xorb_chunk.specs.Chunks.{chunk_leaf}
-use Rattle.xet_steps.specs.Interface.{IsErrorSince}
-use Rattle.xet_steps.specs.Holders.{Follows, Holder, calls_in}
+use Rattle.xet_store.specs.Interface.{IsErrorSince}
+use Rattle.xet_store.specs.Holders.{Follows, Holder, calls_in}
 use Rattle.xet_clean.specs.Cleaning.{files_in}
-use Rattle.xet_steps.specs.Stepping.{SawComplete, SawOther, SawRegister}
+use Rattle.xet_store.specs.Stepping.{SawComplete, SawOther, SawRegister}
 
 -- each waiting record has the form of a file
 abbrev pub HaveForm : List Pending → Type 0

@@ -5,8 +5,8 @@ use Rattle.xet_dedup_queries.specs.declared.places.DedupError.TheVariants.{Inter
 use Rattle.xet_hash.specs.declared.error.StoreError.{StoreError}
 use Rattle.xet_hash.specs.declared.error.StoreError.TheVariants as store
 use Rattle.xet_hash.specs.declared.error.What.TheVariants.{Source}
-use Rattle.xet_steps.specs.Interface.{IsErrorSince}
-use Rattle.xet_steps.specs.Holders.{Holder}
+use Rattle.xet_store.specs.Interface.{IsErrorSince}
+use Rattle.xet_store.specs.Holders.{Holder}
 
 -- the error of a store, for one of the deduplication of a file
 abbrev pub store_error : DedupError StoreError → StoreError

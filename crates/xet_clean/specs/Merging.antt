@@ -9,8 +9,8 @@ use Rattle.xet_hash.specs.declared.error.StoreError.{StoreError}
 use Rattle.xet_history.specs.History.{after_all}
 use Rattle.xet_history.specs.declared.entry.Entry.{Entry}
 use Rattle.xet_shard_format.specs.declared.record.MDBFileInfo.{MDBFileInfo}
-use Rattle.xet_steps.specs.Holders.{Follows, Holder, calls_in, core_at}
-use Rattle.xet_store.specs.declared.info.XetFileInfo.{XetFileInfo}
+use Rattle.xet_store.specs.Holders.{Follows, Holder, calls_in, core_at}
+use Rattle.xet_store_disk.specs.declared.info.XetFileInfo.{XetFileInfo}
 use Rattle.xet_xorb_chunk.specs.Chunks.{chunk_leaf}
 use Rattle.xet_clean.specs.Cleaning.{ClosesLast, RegistersFew, RegistersPart, metrics_sum}
 use Rattle.xet_clean.specs.Closing.{AnyCalls, IsUnclosed, recorded_in}

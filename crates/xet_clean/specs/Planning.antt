@@ -12,11 +12,11 @@ use Rattle.xet_dedup_queries.specs.Counting.{HasNext, LandsIn}
 use Rattle.xet_file_plan.specs.Kept.{IsBlockWithin}
 use Rattle.xet_file_plan.specs.Moves.{PlanState}
 use Rattle.xet_hash.specs.Merkle.{chunk_hash}
-use Rattle.xet_store.specs.declared.info.XetFileInfo.{XetFileInfo}
+use Rattle.xet_store_disk.specs.declared.info.XetFileInfo.{XetFileInfo}
 use Rattle.xet_xorb_chunk.specs.Chunks.{chunk_leaf}
 use Rattle.xet_xorb_chunk.specs.declared.chunk.Chunk.{Chunk}
-use Rattle.xet_steps.specs.Interface.{Stands}
-use Rattle.xet_steps.specs.Holders.{FollowsAsking, Holder, calls_in, calls_of, core_at, xorb_limits, lengths_in}
+use Rattle.xet_store.specs.Interface.{Stands}
+use Rattle.xet_store.specs.Holders.{FollowsAsking, Holder, calls_in, calls_of, core_at, xorb_limits, lengths_in}
 use Rattle.xet_clean.specs.Files.{leaves_in}
 use Rattle.xet_clean.specs.Policies.{info_with}
 

@@ -5,7 +5,7 @@ use Rattle.sha2.specs.Sha256.{sha256}
 use Rattle.xet_cut.specs.Chunking.{chunking}
 use Rattle.xet_cut.specs.declared.limits.LimitSettings.{LimitSettings}
 use Rattle.xet_hash.specs.Merkle.{file_hash, leaves_of}
-use Rattle.xet_store.specs.declared.info.XetFileInfo.{XetFileInfo}
+use Rattle.xet_store_disk.specs.declared.info.XetFileInfo.{XetFileInfo}
 use Rattle.xet_clean.specs.declared.policy.Sha256Generator.{Sha256Generator}
 use Rattle.xet_clean.specs.declared.policy.Sha256Policy.{Sha256Policy}
 use Rattle.xet_clean.specs.declared.policy.Sha256Policy.TheVariants.{Compute, Provided, Skip}

@@ -9,9 +9,9 @@ use Rattle.xet_hash.specs.declared.error.What.TheVariants as what
 use Rattle.xet_io.specs.Faults.{Rose}
 use Rattle.xet_cut.specs.Chunking.{chunking}
 use Rattle.xet_aggregate.specs.Aggregate.{Aggregate, IsAggregate}
-use Rattle.xet_store.specs.Cleaning.{EachTold, FailedAt, IsLongAt, RoseAt}
-use Rattle.xet_steps.specs.Interface.{IsErrorSince}
-use Rattle.xet_steps.specs.Holders.{Follows, Holder, calls_in}
+use Rattle.xet_store_disk.specs.Cleaning.{EachTold, FailedAt, IsLongAt, RoseAt}
+use Rattle.xet_store.specs.Interface.{IsErrorSince}
+use Rattle.xet_store.specs.Holders.{Follows, Holder, calls_in}
 use Rattle.xet_clean.specs.Cleaning.{AreRecords, ClosesLast, EachTaken}
 use Rattle.xet_clean.specs.declared.policy.Sha256Policy.{Sha256Policy}
 use Rattle.xet_clean.specs.Planning.{IsWithin}
@@ -19,7 +19,7 @@ use Rattle.xet_clean.specs.Closing.{AnyCalls, IsUnclosed, recorded_in}
 use Rattle.xet_clean.specs.Working.{IsWorking, Planned, Waits, WasPlanned}
 use Rattle.xet_aggregate.specs.declared.metrics.DeduplicationMetrics.{DeduplicationMetrics}
 use Rattle.xet_choices.specs.declared.choice.Choice.{Choice}
-use Rattle.xet_store.specs.declared.info.XetFileInfo.{XetFileInfo}
+use Rattle.xet_store_disk.specs.declared.info.XetFileInfo.{XetFileInfo}
 
 -- These bytes were taken from a source; all that were left if `all`.
 pub record Takes (all : Bool) (tells : Bool) (left rest bytes : List ℕ) : Type 0 where

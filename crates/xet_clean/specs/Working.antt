@@ -12,16 +12,16 @@ use Rattle.xet_file_plan.specs.Moves.{PlanState, counts_of}
 use Rattle.xet_file_plan.specs.Placed.{ArePlaced}
 use Rattle.xet_shard_format.specs.declared.record.FileDataSequenceEntry.{FileDataSequenceEntry as Segment}
 use Rattle.xet_shard_format.specs.declared.record.MDBFileInfo.{MDBFileInfo}
-use Rattle.xet_store.specs.Cleaning.{EachTold}
-use Rattle.xet_store.specs.declared.info.XetFileInfo.{XetFileInfo}
+use Rattle.xet_store_disk.specs.Cleaning.{EachTold}
+use Rattle.xet_store_disk.specs.declared.info.XetFileInfo.{XetFileInfo}
 use Rattle.xet_xorb_chunk.specs.Chunks.{chunk_leaf}
 use Rattle.xet_xorb_chunk.specs.declared.chunk.Chunk.{Chunk}
 use Rattle.xet_clean.specs.Cleaning.{Lands, metrics_sum}
 use Rattle.xet_clean.specs.Policies.{info_by, sha256_by}
 use Rattle.xet_clean.specs.declared.policy.Sha256Policy.{Sha256Policy}
 use Rattle.xet_clean.specs.Planning.{IsFinished, IsPlanned, IsWithin}
-use Rattle.xet_steps.specs.Interface.{Stands}
-use Rattle.xet_steps.specs.Holders.{Follows, Holder, calls_in, core_at, lengths_in}
+use Rattle.xet_store.specs.Interface.{Stands}
+use Rattle.xet_store.specs.Holders.{Follows, Holder, calls_in, core_at, lengths_in}
 use Rattle.xet_clean.specs.Closing.{Closes, HaveForm, recorded_in}
 
 -- a file that was cleaned: its bytes, where its SHA-256 comes from, and its plan when its deduplication had ended

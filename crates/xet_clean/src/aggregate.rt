@@ -3,7 +3,7 @@
 ghost use Rattle.std.specs.Prelude.{◌≡◌, ◌≢◌, ◌+◌, ◌*◌, IfErr, OnOk, false, length, map, true};
 ghost use Rattle.xet_aggregate.specs.Aggregate.{IsAggregate};
 ghost use Rattle.xet_clean.specs.Planning.{IsWithin};
-ghost use Rattle.xet_steps.specs.Holders.{Follows, xorb_limits};
+ghost use Rattle.xet_store.specs.Holders.{Follows, xorb_limits};
 ghost use Rattle.xet_clean.specs.Closing.{Closes, Completes, HaveForm, IsAtMost, IsClosingError, IsUnclosed, NoCalls, RecordsFirst, RegistersAtMost};
 ghost use Rattle.std.specs.List.{AllByRecursion};
 ghost use Rattle.xet_dedup_queries.specs.Registering.{IsDue};
@@ -13,7 +13,7 @@ ghost use Rattle.xet_xorb_chunk.specs.Chunks.{chunk_leaf};
 use xet_dedup::DataAggregator;
 use xet_hash::{MerkleHash, StoreError};
 use xet_shard_format::MDBFileInfo;
-use xet_steps::Stepping;
+use xet_store::Stepping;
 
 /// Registers the xorb of the chunks, if there are any, with those that did not fit into it, and then records the files. After
 /// an error the first of them may be recorded.

@@ -6,12 +6,12 @@ ghost use Rattle.std.specs.Result.{result_err};
 ghost use Rattle.xet_aggregate.specs.Aggregate.{empty};
 ghost use Rattle.xet_aggregate.specs.Metrics.{zeros};
 ghost use Rattle.xet_clean.specs.Cleaning.{Grows, HasReason, IsBounded, IsCleaned};
-ghost use Rattle.xet_steps.specs.Holders.{Follows};
+ghost use Rattle.xet_store.specs.Holders.{Follows};
 ghost use Rattle.xet_clean.specs.Sources.{AreRead, IsLoopError, IsShort};
 ghost use Rattle.xet_clean.specs.Working.{EndsWith, Planned};
-ghost use Rattle.xet_store.specs.Cleaning.{Adds, AreTaken, EachTold, HasFile, Keeps, Later, chunkings, info_of};
-ghost use Rattle.xet_store.specs.Separate.{Separate};
-ghost use Rattle.xet_store.specs.Store.{plan_of};
+ghost use Rattle.xet_store_disk.specs.Cleaning.{Adds, AreTaken, EachTold, HasFile, Keeps, Later, chunkings, info_of};
+ghost use Rattle.xet_store_disk.specs.Separate.{Separate};
+ghost use Rattle.xet_store_disk.specs.Store.{plan_of};
 ghost use Rattle.xet_clean.specs.Policies.{info_by};
 ghost use Rattle.xet_clean.specs.declared.policy.Sha256Policy.TheVariants.{Compute};
 
@@ -23,7 +23,7 @@ use std::alloc::Global;
 use std::marker::Send;
 use xet_hash::StoreError;
 use xet_io::{Disk, Source};
-use xet_steps::{Alone, Asking, Stepping, Store};
+use xet_store::{Alone, Asking, Stepping, Store};
 
 /// Reads each of at most 2^20 sources to its end and stores its file, in order, as pass 0. A chunk for which a query finds a
 /// run is not stored again, unless the guard against fragmentation rejects the run; chunks that still wait for their xorb are

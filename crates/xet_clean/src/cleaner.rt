@@ -3,9 +3,9 @@
 ghost use Rattle.std.specs.Prelude.{◌≡◌, ◌++◌, ◌+◌, ◌≤◌, [], ℕ, List, IfErr, IfOk, IsOkUnless, OnErr, OnOk, is_ok, false, length, map, option_map, true};
 ghost use Rattle.std.specs.List.{AllByRecursion};
 ghost use Rattle.std.specs.Option.{ForSome};
-ghost use Rattle.xet_steps.specs.Interface.{IsErrorSince, Stands};
+ghost use Rattle.xet_store.specs.Interface.{IsErrorSince, Stands};
 ghost use Rattle.xet_clean.specs.Planning.{IsFew, IsFinished, IsPlanned};
-ghost use Rattle.xet_steps.specs.Holders.{FollowsAsking, calls_of, core_at, xorb_limits, lengths_in};
+ghost use Rattle.xet_store.specs.Holders.{FollowsAsking, calls_of, core_at, xorb_limits, lengths_in};
 ghost use Rattle.xet_clean.specs.Cleaner.{IsBatchOf, IsCleaning, IsCleaningBytes, IsCleaningSome, StopsInBatch};
 ghost use Rattle.xet_clean.specs.Errors.{IsCleanerError};
 ghost use Rattle.xet_clean.specs.Policies.{IfComputed};
@@ -23,8 +23,8 @@ use xet_base::Items;
 use xet_dedup::{Choice, Chunker, DataAggregator, DeduplicationMetrics, FileDeduper, Finalized};
 use xet_hash::{StoreError, What};
 use xet_shard_format::{FileMetadataExt, Sha256};
-use xet_steps::{Asking, Stepping};
-use xet_store::XetFileInfo;
+use xet_store::{Asking, Stepping};
+use xet_store_disk::XetFileInfo;
 use xet_xorb_chunk::Chunk;
 
 /// One file that is cleaned as its bytes come. The chunks that end in a piece of it are one batch of its deduplication.

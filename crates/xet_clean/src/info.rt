@@ -8,7 +8,7 @@ use crate::metrics::add_metrics;
 use xet_base::Items;
 use xet_dedup::{Choice, DeduplicationMetrics};
 use xet_hash::StoreError;
-use xet_store::XetFileInfo;
+use xet_store_disk::XetFileInfo;
 
 /// The result of cleaning.
 #[derive(Debug, Drop)]

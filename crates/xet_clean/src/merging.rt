@@ -5,12 +5,12 @@ ghost use Rattle.std.specs.List.{sum_by};
 ghost use Rattle.xet_clean.specs.Closing.{IsAtMost};
 ghost use Rattle.xet_clean.specs.Merging.{IsUnmerged, MayMergeAll, MergesAll, Part};
 ghost use Rattle.xet_clean.specs.internal.Merging.{IsMerging};
-ghost use Rattle.xet_steps.specs.Holders.{Follows, Holder};
+ghost use Rattle.xet_store.specs.Holders.{Follows, Holder};
 
 use crate::info::Cleaned;
 use crate::working::Working;
 use xet_hash::StoreError;
-use xet_steps::Stepping;
+use xet_store::Stepping;
 
 /// Merges what was made of parts of the sources, in order: what is left of a part joins what is left of those before it, and if it
 /// does not fit, that is closed first. At the end what is left is closed. There is at least one part, and there are at most 2^20

@@ -7,15 +7,15 @@ ghost use Rattle.xet_aggregate.specs.Aggregate.{empty};
 ghost use Rattle.xet_aggregate.specs.Metrics.{zeros};
 ghost use Rattle.xet_clean.specs.Sources.{AreRead, IsLoopError, IsShort};
 ghost use Rattle.xet_clean.specs.Working.{EndsWith, Planned};
-ghost use Rattle.xet_steps.specs.Holders.{Follows};
+ghost use Rattle.xet_store.specs.Holders.{Follows};
 ghost use Rattle.xet_choices.specs.declared.choice.Choice.{Choice};
 ghost use Rattle.xet_clean.specs.Cleaning.{Grows, HasReason, IsBounded, IsCleaned};
 ghost use Rattle.xet_clean.specs.Policies.{info_by};
 ghost use Rattle.xet_cut.specs.Chunking.{chunking};
 ghost use Rattle.xet_io.specs.Frame.{Stays};
-ghost use Rattle.xet_store.specs.Cleaning.{Adds, AreTaken, EachTold, HasFile, Keeps, chunkings};
-ghost use Rattle.xet_store.specs.Separate.{Separate};
-ghost use Rattle.xet_store.specs.Store.{plan_of};
+ghost use Rattle.xet_store_disk.specs.Cleaning.{Adds, AreTaken, EachTold, HasFile, Keeps, chunkings};
+ghost use Rattle.xet_store_disk.specs.Separate.{Separate};
+ghost use Rattle.xet_store_disk.specs.Store.{plan_of};
 
 use crate::block_reader::BlockReader;
 use crate::info::Cleaned;
@@ -26,8 +26,8 @@ use std::alloc::Global;
 use xet_dedup::DeduplicationMetrics;
 use xet_hash::StoreError;
 use xet_io::{Disk, SliceSource, Source};
-use xet_steps::{Alone, Asking, Stepping, Store};
-use xet_store::XetFileInfo;
+use xet_store::{Alone, Asking, Stepping, Store};
+use xet_store_disk::XetFileInfo;
 
 /// Reads a source to its end and stores its file, as `clean_files` does with one source. The SHA-256 of the file comes by the
 /// policy: the pointer record has it, and so has the record that is passed to the store. If the store has a record of that hash,

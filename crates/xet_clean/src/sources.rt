@@ -13,8 +13,8 @@ ghost use Rattle.xet_clean.specs.Working.{IsAdded, IsWorking, Planned};
 ghost use Rattle.xet_dedup_queries.specs.Counting.{HasNext};
 ghost use Rattle.xet_file_plan.specs.Moves.{PlanState};
 ghost use Rattle.xet_io.specs.Frame.{Stays};
-ghost use Rattle.xet_steps.specs.Holders.{Follows, FollowsAsking, Holder};
-ghost use Rattle.xet_store.specs.Cleaning.{AreTaken, Later};
+ghost use Rattle.xet_store.specs.Holders.{Follows, FollowsAsking, Holder};
+ghost use Rattle.xet_store_disk.specs.Cleaning.{AreTaken, Later};
 ghost use Rattle.xet_xorb_chunk.specs.Chunks.{chunk_leaf};
 
 use crate::block_reader::BlockReader;
@@ -25,7 +25,7 @@ use crate::working::Working;
 use std::alloc::Global;
 use xet_hash::StoreError;
 use xet_io::Source;
-use xet_steps::{Asking, Stepping};
+use xet_store::{Asking, Stepping};
 
 /// Reads and stores the sources in turn, at most 2^20 of them, which errors name by their numbers, from 0 on. `working`
 /// is as `Working::new` returns it, with room for as many sources. What is left of the files, which is chunks in no xorb yet and

@@ -5,7 +5,7 @@ ghost use Rattle.std.specs.List.{AllByRecursion};
 ghost use Rattle.xet_aggregate.specs.Aggregate.{IsAggregate, empty};
 ghost use Rattle.xet_aggregate.specs.Metrics.{zeros};
 ghost use Rattle.xet_clean.specs.Planning.{IsWithin};
-ghost use Rattle.xet_steps.specs.Holders.{Follows, Holder};
+ghost use Rattle.xet_store.specs.Holders.{Follows, Holder};
 ghost use Rattle.xet_clean.specs.Closing.{Closes, HaveForm, IsAtMost, IsUnclosed, Joins, RegistersAtMost};
 ghost use Rattle.xet_clean.specs.internal.Sums.{HasRoom};
 ghost use Rattle.xet_clean.specs.Working.{IsAdded, IsWorking, Planned};
@@ -24,7 +24,7 @@ use std::alloc::Global;
 use std::mem;
 use xet_dedup::{DataAggregator, DeduplicationMetrics};
 use xet_hash::StoreError;
-use xet_steps::Stepping;
+use xet_store::Stepping;
 use xet_xorb_chunk::chunk_leaves;
 
 /// What was made of the sources so far.

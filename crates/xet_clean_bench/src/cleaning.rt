@@ -6,7 +6,7 @@ use std::time::{Clock, Instant};
 use xet_clean::{Cleaned, clean_files};
 use xet_hash::StoreError;
 use xet_io::{MemoryDisk, SliceSource};
-use xet_steps::Store;
+use xet_store::Store;
 
 /// A call of cleaning: its microseconds, the numbers of chunks and of new ones, and of xorbs after it.
 #[derive(Clone, Copy)]

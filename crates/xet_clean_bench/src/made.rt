@@ -4,7 +4,7 @@ use std::alloc::Global;
 use xet_cut::{LimitSettings, Limits, gear_table, generated};
 use xet_hash::StoreError;
 use xet_io::{MemoryDisk, SliceSource};
-use xet_steps::Store;
+use xet_store::Store;
 
 /// The number of bytes of a mebibyte.
 const MEBIBYTE: u64 = 1 << 20;

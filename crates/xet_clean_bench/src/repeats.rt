@@ -11,7 +11,7 @@ use std::thread::Threads;
 use std::time::{Clock, Instant};
 use xet_hash::StoreError;
 use xet_io::{Failed, MemoryDisk, Source};
-use xet_steps::Store;
+use xet_store::Store;
 use xet_workers::clean_files;
 
 /// The number of mebibytes that the file repeats: those of a block at the default limits.

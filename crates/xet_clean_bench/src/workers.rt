@@ -13,7 +13,7 @@ use xet_clean::Sha256Generator;
 use xet_hash::StoreError;
 use xet_io::{MemoryDisk, SliceSource};
 use xet_shard_format::Sha256;
-use xet_steps::Store;
+use xet_store::Store;
 use xet_workers::clean_files;
 
 /// The microseconds in which so many workers, 1 to 256, clean so many mebibytes in so many files into a new store.

@@ -6,7 +6,7 @@ use std::test::Fail;
 use xet_clean::Cleaned;
 use xet_dedup::DeduplicationMetrics;
 use xet_hash::StoreError;
-use xet_store::XetFileInfo;
+use xet_store_disk::XetFileInfo;
 
 /// A target length of shards, and a maximum length of sources, that nothing here passes.
 const LONG: u64 = 1 << 20;

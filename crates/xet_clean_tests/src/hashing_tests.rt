@@ -11,7 +11,7 @@ use xet_clean::Cleaned;
 use xet_hash::{Place, StoreError, What};
 use xet_hash_files::hash_files;
 use xet_io::{FailingSource, SliceSource};
-use xet_store::XetFileInfo;
+use xet_store_disk::XetFileInfo;
 
 /// A file of several blocks and chunks.
 const SEVENS: [u8; 1000] = [7; 1000];

@@ -8,8 +8,8 @@ use xet_hash::{MerkleHash, StoreError};
 use xet_history::Entry;
 use xet_io::{Disk, FailingSource, MemoryDisk, Op, Refusal, SliceSource};
 use xet_shard_format::{FileDataSequenceEntry, Sha256};
-use xet_steps::Store;
-use xet_store::XetFileInfo;
+use xet_store::Store;
+use xet_store_disk::XetFileInfo;
 
 /// A store in the folder `store` of a disk in memory.
 #[derive(Drop)]

@@ -7,7 +7,7 @@ use xet_clean::Sha256Policy;
 use xet_dedup::DeduplicationMetrics;
 use xet_hash::{Place, StoreError, What};
 use xet_shard_format::Sha256;
-use xet_store::XetFileInfo;
+use xet_store_disk::XetFileInfo;
 
 /// 64 zeros.
 const ZEROS: &str = "0000000000000000000000000000000000000000000000000000000000000000";

@@ -12,7 +12,7 @@ use Rattle.xet_cut.specs.theorems.Parts.{first_chunk_len_within}
 use Rattle.xet_hash.specs.Merkle.{file_hash, leaf_of, leaves_of, total_len}
 use Rattle.xet_xorb_chunk.specs.Chunks.{chunk_leaf, chunk_of}
 use Rattle.xet_xorb_chunk.specs.declared.chunk.Chunk.{Chunk}
-use Rattle.xet_store.specs.declared.info.XetFileInfo.{XetFileInfo}
+use Rattle.xet_store_disk.specs.declared.info.XetFileInfo.{XetFileInfo}
 use Rattle.xet_hash_files.specs.Hashing.{hashed_info}
 use Rattle.xet_hash_files.specs.internal.FileHasher.{IsHashing}
 

@@ -8,8 +8,8 @@ use Rattle.xet_hash.specs.declared.error.Place.TheVariants as place
 use Rattle.xet_hash.specs.declared.error.StoreError.{StoreError}
 use Rattle.xet_hash.specs.declared.error.StoreError.TheVariants.{Io, OutOfMemory, TooLarge}
 use Rattle.xet_hash.specs.declared.error.What.TheVariants as what
-use Rattle.xet_store.specs.Cleaning.{AreTaken, EachTold, IsLongAt, Later, RoseAt}
-use Rattle.xet_store.specs.declared.info.XetFileInfo.{XetFileInfo}
+use Rattle.xet_store_disk.specs.Cleaning.{AreTaken, EachTold, IsLongAt, Later, RoseAt}
+use Rattle.xet_store_disk.specs.declared.info.XetFileInfo.{XetFileInfo}
 use Rattle.xet_hash_files.specs.Hashing.{HasHashReason, hashed_info}
 use Rattle.xet_hash_files.specs.internal.Sources.{AreHashed, AreLeft, IsHashed, IsLeft, IsPartError, IsSourceError}
 

@@ -10,7 +10,7 @@ use Rattle.xet_hash.specs.declared.error.What.TheVariants as what
 use Rattle.xet_io.specs.Faults.{Rose}
 use Rattle.xet_io.specs.Frame.{Stays}
 use Rattle.xet_io.specs.Whole.{FillsWith}
-use Rattle.xet_store.specs.declared.info.XetFileInfo.{XetFileInfo}
+use Rattle.xet_store_disk.specs.declared.info.XetFileInfo.{XetFileInfo}
 use Rattle.xet_hash_files.specs.Hashing.{hashed_info}
 use Rattle.xet_hash_files.specs.internal.FileHasher.{IsAddError}
 use Rattle.xet_hash_files.specs.internal.Sources.{IsHashed, IsLeft, IsSourceError, Takes}

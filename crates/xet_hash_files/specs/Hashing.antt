@@ -7,8 +7,8 @@ use Rattle.xet_hash.specs.declared.error.Place.TheVariants as place
 use Rattle.xet_hash.specs.declared.error.StoreError.{StoreError}
 use Rattle.xet_hash.specs.declared.error.StoreError.TheVariants.{Io, OutOfMemory, TooLarge}
 use Rattle.xet_hash.specs.declared.error.What.TheVariants as what
-use Rattle.xet_store.specs.Cleaning.{IsLongAt, RoseAt}
-use Rattle.xet_store.specs.declared.info.XetFileInfo.{XetFileInfo}
+use Rattle.xet_store_disk.specs.Cleaning.{IsLongAt, RoseAt}
+use Rattle.xet_store_disk.specs.declared.info.XetFileInfo.{XetFileInfo}
 
 -- the pointer record of a file, without its SHA-256
 abbrev pub hashed_info : LimitSettings → List ℕ → XetFileInfo

@@ -8,7 +8,7 @@ ghost use Rattle.xet_xorb_chunk.specs.Chunks.{chunk_leaf};
 use std::alloc::Global;
 use xet_cut::{Chunker, Limits};
 use xet_hash::{MerkleHash, StoreError, What, file_hash};
-use xet_store::XetFileInfo;
+use xet_store_disk::XetFileInfo;
 use xet_xorb_chunk::{Chunk, chunk_leaves};
 
 /// One file that is hashed as its bytes come. Of each chunk only the hash and the length stay in memory.

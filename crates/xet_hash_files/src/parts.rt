@@ -8,7 +8,7 @@ use std::alloc::Global;
 use xet_cut::Limits;
 use xet_hash::StoreError;
 use xet_io::Source;
-use xet_store::XetFileInfo;
+use xet_store_disk::XetFileInfo;
 
 /// Reads these sources to their ends, one after the other and all into one buffer, and returns the pointer record of each.
 /// Errors name them from `first` on.

@@ -11,7 +11,7 @@ use std::alloc::Global;
 use xet_cut::Limits;
 use xet_hash::{Place, StoreError};
 use xet_io::{Source, read_full};
-use xet_store::XetFileInfo;
+use xet_store_disk::XetFileInfo;
 
 /// Reads a source to its end, and returns the pointer record of its file. Errors name it as source `number`.
 pub(crate) fn hash_source<S: Source>(

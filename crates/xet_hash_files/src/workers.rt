@@ -5,7 +5,7 @@ ghost use Rattle.std.specs.List.{AllByRecursion};
 ghost use Rattle.std.specs.Thread.{IsSend, IsSync};
 ghost use Rattle.xet_hash_files.specs.Hashing.{HasHashReason, hashed_info};
 ghost use Rattle.xet_hash_files.specs.internal.Sources.{AreHashed, AreLeft, IsPartError};
-ghost use Rattle.xet_store.specs.Cleaning.{AreTaken, EachTold, Later};
+ghost use Rattle.xet_store_disk.specs.Cleaning.{AreTaken, EachTold, Later};
 
 use crate::parts::hash_part;
 use std::alloc::Global;
@@ -14,7 +14,7 @@ use std::thread::{Threads, join_mut};
 use xet_cut::Limits;
 use xet_hash::StoreError;
 use xet_io::Source;
-use xet_store::XetFileInfo;
+use xet_store_disk::XetFileInfo;
 
 /// Reads each of at most 2^20 sources to its end and returns the pointer record of its file, in order and without a SHA-256.
 /// Nothing is stored. The sources are divided among the workers before the first is read, in order and evenly; with more workers

@@ -19,9 +19,9 @@ use Rattle.xet_shard_format.specs.RecordSizes.{file_record_size, xorb_record_siz
 use Rattle.xet_shard_format.specs.Records.{file_record_hash}
 use Rattle.xet_shard_format.specs.declared.record.FileDataSequenceEntry.{FileDataSequenceEntry as Segment}
 use Rattle.xet_shard_format.specs.declared.record.MDBFileInfo.{MDBFileInfo}
-use Rattle.xet_steps.specs.Steps.{fault_entries}
-use Rattle.xet_steps.specs.Holders.{IsDueEntry, calls_in, numbered}
-use Rattle.xet_steps.specs.theorems.Following.{calls_in-append, numbered-append}
+use Rattle.xet_store.specs.Steps.{fault_entries}
+use Rattle.xet_store.specs.Holders.{IsDueEntry, calls_in, numbered}
+use Rattle.xet_store.specs.theorems.Following.{calls_in-append, numbered-append}
 use Rattle.xet_xorb.specs.Raw.{xorb_record}
 
 -- A xorb was registered with the chunks that did not fit into it, or with none; and the entries are these calls, whatever

@@ -4,8 +4,8 @@ use Rattle.std.proofs.lemmas.List.{drop_at}
 use Rattle.xet_history.specs.History.{after_all}
 use Rattle.xet_history.specs.declared.entry.Entry.{Entry}
 use Rattle.xet_history.specs.theorems.Joining.{after_all-append}
-use Rattle.xet_steps.specs.Holders.{Follows, Holder, core_at, core_found, grown, numbered, seen}
-use Rattle.xet_steps.specs.theorems.Following.{follows_then}
+use Rattle.xet_store.specs.Holders.{Follows, Holder, core_at, core_found, grown, numbered, seen}
+use Rattle.xet_store.specs.theorems.Following.{follows_then}
 use Rattle.xet_locked_session.specs.Passing.{passing_of}
 use Rattle.xet_locked_session.proofs.Fronts.{drop_longer}
 

@@ -5,9 +5,9 @@ use Rattle.xet_hash.specs.declared.error.StoreError.{StoreError}
 use Rattle.xet_history.specs.Core.{Core}
 use Rattle.xet_history.specs.History.{after_all}
 use Rattle.xet_history.specs.declared.entry.Entry.{Entry}
-use Rattle.xet_steps.specs.Recorded.{RecordedState, core_of}
-use Rattle.xet_steps.specs.Steps.{fault_entries}
-use Rattle.xet_steps.specs.Alone.{Step, cut_of, kind_of}
+use Rattle.xet_store.specs.Recorded.{RecordedState, core_of}
+use Rattle.xet_store.specs.Steps.{fault_entries}
+use Rattle.xet_store.specs.Alone.{Step, cut_of, kind_of}
 use Rattle.xet_locked_session.specs.Session.{fault_count}
 use Rattle.xet_locked_session.specs.Shared.{HaveEnded, HaveMade, StepOf, StepsBy, StepsByUntil}
 use Rattle.xet_locked_session.proofs.Made.{fault_count-append, few_complete, few_complete_cut, few_fault, few_query, few_register, few_register_cut}

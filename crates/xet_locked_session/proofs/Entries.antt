@@ -8,8 +8,8 @@ use Rattle.xet_history.specs.History.{Legal}
 use Rattle.xet_history.specs.declared.entry.Entry.{Entry}
 use Rattle.xet_shared_history.specs.Owned.{AreOwn, numbers_from}
 use Rattle.xet_shared_history.specs.theorems.Prefixes.{prefix_get}
-use Rattle.xet_steps.specs.Recorded.{RecordedState, core_of}
-use Rattle.xet_steps.specs.Holders.{Holder, numbered, seen}
+use Rattle.xet_store.specs.Recorded.{RecordedState, core_of}
+use Rattle.xet_store.specs.Holders.{Holder, numbered, seen}
 use Rattle.xet_locked_session.specs.Passes.{IsSeen, IsThere, entries_at, holder_of, with_number}
 
 entries_at-append : (history : List Entry) (xs ys : List ℕ) → entries_at history (xs ++ ys) ≡ entries_at history xs ++ entries_at history ys

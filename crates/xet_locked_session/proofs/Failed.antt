@@ -10,9 +10,9 @@ use Rattle.xet_history.specs.declared.entry.Entry.{Entry}
 use Rattle.xet_history.specs.declared.entry.StepKind.{StepKind}
 use Rattle.xet_locked_session.specs.Passes.{OtherFile, StepFailed}
 use Rattle.xet_shard_format.specs.declared.record.MDBFileInfo.{MDBFileInfo}
-use Rattle.xet_steps.specs.Steps.{fault_entries}
-use Rattle.xet_steps.specs.Holders.{Follows, Holder, core_found, ended, grown}
-use Rattle.xet_steps.specs.Stepping.{IsStepReason, SawError, SawOther}
+use Rattle.xet_store.specs.Steps.{fault_entries}
+use Rattle.xet_store.specs.Holders.{Follows, Holder, core_found, ended, grown}
+use Rattle.xet_store.specs.Stepping.{IsStepReason, SawError, SawOther}
 use Rattle.xet_locked_session.specs.Passing.{passing_of}
 use Rattle.xet_locked_session.proofs.Carrying.{found_same, grown_is, number_same, tells_same}
 

@@ -21,12 +21,12 @@ use Rattle.xet_shard_format.specs.RecordSizes.{file_record_size, xorb_record_siz
 use Rattle.xet_shard_format.specs.Records.{file_record_hash}
 use Rattle.xet_shard_format.specs.declared.record.MDBFileInfo.{MDBFileInfo}
 use Rattle.xet_shared_history.specs.Owned.{AreOwn}
-use Rattle.xet_steps.specs.Recorded.{AreShards, RecordedState, core_of}
-use Rattle.xet_steps.specs.Steps.{FailsAsking, IsOtherFile, IsStepError, Refuses, Steps, fault_entries}
-use Rattle.xet_steps.specs.Holders.{Holder, core_found}
-use Rattle.xet_steps.specs.Stepping.{IsStepReason, no_cut}
-use Rattle.xet_store.specs.Asking.{IsAskingError}
-use Rattle.xet_store.specs.Store.{State}
+use Rattle.xet_store.specs.Recorded.{AreShards, RecordedState, core_of}
+use Rattle.xet_store.specs.Steps.{FailsAsking, IsOtherFile, IsStepError, Refuses, Steps, fault_entries}
+use Rattle.xet_store.specs.Holders.{Holder, core_found}
+use Rattle.xet_store.specs.Stepping.{IsStepReason, no_cut}
+use Rattle.xet_store_disk.specs.Asking.{IsAskingError}
+use Rattle.xet_store_disk.specs.Store.{State}
 use Rattle.xet_xorb.specs.Raw.{xorb_record}
 use Rattle.xet_locked_session.specs.Passes.{FlushFailed, IsFlushReason, OtherFile, StepFailed}
 use Rattle.xet_locked_session.specs.Session.{IsSince}

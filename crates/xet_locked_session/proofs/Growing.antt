@@ -9,10 +9,10 @@ use Rattle.xet_history.specs.theorems.Joining.{after_all-append}
 use Rattle.xet_shared_history.specs.Owned.{AreOwn, numbers_from}
 use Rattle.xet_shared_history.specs.theorems.Owned.{own_added, own_later}
 use Rattle.xet_shared_history.specs.theorems.Prefixes.{prefix_after, same_rest}
-use Rattle.xet_steps.specs.Recorded.{RecordedState, core_of}
-use Rattle.xet_steps.specs.Steps.{Steps}
-use Rattle.xet_steps.specs.theorems.Joining.{steps_both}
-use Rattle.xet_steps.specs.Holders.{Holder, core_at, core_found, grown, numbered}
+use Rattle.xet_store.specs.Recorded.{RecordedState, core_of}
+use Rattle.xet_store.specs.Steps.{Steps}
+use Rattle.xet_store.specs.theorems.Joining.{steps_both}
+use Rattle.xet_store.specs.Holders.{Holder, core_at, core_found, grown, numbered}
 use Rattle.xet_locked_session.specs.Passes.{entries_at, holder_of}
 use Rattle.xet_locked_session.specs.Session.{IsSince}
 use Rattle.xet_locked_session.proofs.Entries.{entries_grown}

@@ -11,12 +11,12 @@ use Rattle.xet_history.specs.History.{after_all}
 use Rattle.xet_history.specs.declared.entry.Entry.{Entry}
 use Rattle.xet_history.specs.declared.entry.StepKind.{StepKind}
 use Rattle.xet_shared_history.specs.theorems.Prefixes.{same_rest}
-use Rattle.xet_steps.specs.Changes.{ChangesFiles, files_of}
-use Rattle.xet_steps.specs.Recorded.{RecordedState, core_of}
-use Rattle.xet_steps.specs.theorems.Changing.{changes_more, changes_nothing, changes_then}
-use Rattle.xet_steps.specs.Steps.{fault_entries}
-use Rattle.xet_steps.specs.Alone.{MayBeAsked, cut_of, kind_of}
-use Rattle.xet_steps.specs.Holders.{Holder, grown}
+use Rattle.xet_store.specs.Changes.{ChangesFiles, files_of}
+use Rattle.xet_store.specs.Recorded.{RecordedState, core_of}
+use Rattle.xet_store.specs.theorems.Changing.{changes_more, changes_nothing, changes_then}
+use Rattle.xet_store.specs.Steps.{fault_entries}
+use Rattle.xet_store.specs.Alone.{MayBeAsked, cut_of, kind_of}
+use Rattle.xet_store.specs.Holders.{Holder, grown}
 use Rattle.xet_locked_session.specs.Passes.{FlushFailed, StepFailed}
 use Rattle.xet_locked_session.specs.Session.{IsSince, fault_count}
 use Rattle.xet_locked_session.specs.Shared.{HaveEnded, HaveMade, StepOf, StepsBy, attempted}

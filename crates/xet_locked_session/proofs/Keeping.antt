@@ -7,7 +7,7 @@ use Rattle.xet_base.specs.theorems.Elements.{all_back, all_both, all_more}
 use Rattle.xet_history.specs.History.{Legal}
 use Rattle.xet_history.specs.declared.entry.Entry.{Entry}
 use Rattle.xet_locked_session.specs.Passes.{IsSeen, IsThere}
-use Rattle.xet_steps.specs.Holders.{Follows, Holder, IsDueEntry, IsHolder, IsOwn, core_at, grown, numbered, seen, xorb_limits}
+use Rattle.xet_store.specs.Holders.{Follows, Holder, IsDueEntry, IsHolder, IsOwn, core_at, grown, numbered, seen, xorb_limits}
 use Rattle.xet_locked_session.specs.Passing.{IsPassing, passing_of}
 use Rattle.xet_locked_session.proofs.Carrying.{follows_new, grown_is, later, seen_here, still_new}
 use Rattle.xet_locked_session.proofs.Fronts.{ascend_rest, legal_rest}

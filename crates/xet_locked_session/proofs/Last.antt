@@ -6,8 +6,8 @@ use Rattle.xet_choices.specs.Calls.Call.{Asked, Registered}
 use Rattle.xet_history.specs.History.{query_entries, reply_of, stated}
 use Rattle.xet_history.specs.declared.entry.Entry.{Entry}
 use Rattle.xet_shard_format.specs.declared.record.FileDataSequenceEntry.{FileDataSequenceEntry as Segment}
-use Rattle.xet_steps.specs.Holders.{Follows, Holder, calls_in, calls_of, grown, numbered, run_count, seen}
-use Rattle.xet_steps.specs.theorems.Following.{calls_in-append}
+use Rattle.xet_store.specs.Holders.{Follows, Holder, calls_in, calls_of, grown, numbered, run_count, seen}
+use Rattle.xet_store.specs.theorems.Following.{calls_in-append}
 use Rattle.xet_locked_session.specs.Passing.{passing_of}
 use Rattle.xet_locked_session.specs.internal.Kept.{IsLast}
 use Rattle.xet_locked_session.proofs.Carrying.{grown_is, seen_same}

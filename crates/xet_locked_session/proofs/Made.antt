@@ -26,15 +26,15 @@ use Rattle.xet_shard_format.specs.RecordSizes.{file_record_size, xorb_record_siz
 use Rattle.xet_shard_format.specs.Records.{file_record_hash}
 use Rattle.xet_shard_format.specs.declared.record.FileDataSequenceEntry.{FileDataSequenceEntry as Segment}
 use Rattle.xet_shard_format.specs.declared.record.MDBFileInfo.{MDBFileInfo}
-use Rattle.xet_steps.specs.Changes.{ChangesFiles}
-use Rattle.xet_steps.specs.Recorded.{RecordedState, core_of}
-use Rattle.xet_steps.specs.Steps.{FailsAsking, IsOtherFile, IsStepError, Refuses, Steps, fault_entries}
-use Rattle.xet_steps.specs.theorems.Changing.{changes_unread}
-use Rattle.xet_steps.specs.theorems.Joining.{steps_nothing}
-use Rattle.xet_store.specs.Asking.{IsAskingError}
-use Rattle.xet_store.specs.Flushing.{IsFlushed}
-use Rattle.xet_store.specs.Ranges.{IsUnchanged}
-use Rattle.xet_store.specs.Store.{State}
+use Rattle.xet_store.specs.Changes.{ChangesFiles}
+use Rattle.xet_store.specs.Recorded.{RecordedState, core_of}
+use Rattle.xet_store.specs.Steps.{FailsAsking, IsOtherFile, IsStepError, Refuses, Steps, fault_entries}
+use Rattle.xet_store.specs.theorems.Changing.{changes_unread}
+use Rattle.xet_store.specs.theorems.Joining.{steps_nothing}
+use Rattle.xet_store_disk.specs.Asking.{IsAskingError}
+use Rattle.xet_store_disk.specs.Flushing.{IsFlushed}
+use Rattle.xet_store_disk.specs.Ranges.{IsUnchanged}
+use Rattle.xet_store_disk.specs.Store.{State}
 use Rattle.xet_xorb.specs.Raw.{xorb_record}
 use Rattle.xet_locked_session.specs.Session.{HasRisenBy, fault_count}
 use Rattle.xet_locked_session.specs.internal.Made.{Completed, Flushed, Grew, Queried, Registered}

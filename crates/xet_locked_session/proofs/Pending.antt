@@ -4,8 +4,8 @@ use Rattle.std.specs.Prelude.{◌↔◌, nat_lt, if◌then◌else◌}
 use Rattle.std.proofs.lemmas.Bool.Decides.{nat_tests}
 use Rattle.xet_history.specs.Core.{Core, has_pending, pending_hash}
 use Rattle.xet_shard.specs.Held.{nothing}
-use Rattle.xet_steps.specs.Recorded.{RecordedState, core_of}
-use Rattle.xet_store.specs.Flushing.{IsFlushed}
+use Rattle.xet_store.specs.Recorded.{RecordedState, core_of}
+use Rattle.xet_store_disk.specs.Flushing.{IsFlushed}
 use Rattle.xet_locked_session.specs.Passes.{flushed_hash}
 
 some_or_none : {X Y : Type 0} (xs : List X) (ys : List Y) → (nat_lt 0 (length xs + length ys) ≡ true) ⊎ ((xs ≡ []) × (ys ≡ []))

@@ -14,11 +14,11 @@ use Rattle.xet_history.specs.declared.entry.StepKind.TheVariants.{Complete, Quer
 use Rattle.xet_locked_session.specs.Passes.{IsPassOf, IsSeen, OtherFile, StepFailed}
 use Rattle.xet_shard_format.specs.declared.record.FileDataSequenceEntry.{FileDataSequenceEntry as Segment}
 use Rattle.xet_shard_format.specs.declared.record.MDBFileInfo.{MDBFileInfo}
-use Rattle.xet_steps.specs.Recorded.{RecordedState}
-use Rattle.xet_steps.specs.Steps.{fault_entries}
-use Rattle.xet_steps.specs.Holders.{Holder, IsDueEntry, core_found, grown, seen, xorb_limits}
-use Rattle.xet_steps.specs.Stepping.{SawComplete, SawError, SawOther, SawQuery, SawRegister, cut_to_complete, cut_to_register, no_cut}
-use Rattle.xet_steps.specs.theorems.Following.{follows_nothing}
+use Rattle.xet_store.specs.Recorded.{RecordedState}
+use Rattle.xet_store.specs.Steps.{fault_entries}
+use Rattle.xet_store.specs.Holders.{Holder, IsDueEntry, core_found, grown, seen, xorb_limits}
+use Rattle.xet_store.specs.Stepping.{SawComplete, SawError, SawOther, SawQuery, SawRegister, cut_to_complete, cut_to_register, no_cut}
+use Rattle.xet_store.specs.theorems.Following.{follows_nothing}
 use Rattle.xet_locked_session.specs.Passing.{IsPassing, PassingState, passing_of, passing_state}
 use Rattle.xet_locked_session.specs.internal.Kept.{IsKept, IsLast}
 use Rattle.xet_locked_session.proofs.Added.{IsAdded, added_complete, added_complete_cut, added_failure, added_nothing, added_register, added_register_cut, due_query}

@@ -5,8 +5,8 @@ use mathlib.Core.List.{IsPrefix}
 use Rattle.xet_history.specs.declared.entry.Entry.{Entry}
 use Rattle.xet_shared_history.specs.Owned.{HasEachOnce, IsHeld, Owned, PassesDiffer, all_own}
 use Rattle.xet_shared_history.specs.theorems.Parting.{each_once}
-use Rattle.xet_steps.specs.Holders.{Holder, seen}
-use Rattle.xet_steps.specs.Recorded.{RecordedState}
+use Rattle.xet_store.specs.Holders.{Holder, seen}
+use Rattle.xet_store.specs.Recorded.{RecordedState}
 use Rattle.xet_locked_session.specs.Passes.{IsSeen, NumbersDiffer, holder_of, new_passes, own_numbers}
 use Rattle.xet_locked_session.specs.internal.Returned.{IsReturned}
 

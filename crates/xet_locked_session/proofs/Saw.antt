@@ -12,8 +12,8 @@ use Rattle.xet_shard.specs.Runs.{held_run}
 use Rattle.xet_shard_format.specs.Records.{file_record_hash}
 use Rattle.xet_shard_format.specs.declared.record.FileDataSequenceEntry.{FileDataSequenceEntry as Segment}
 use Rattle.xet_shard_format.specs.declared.record.MDBFileInfo.{MDBFileInfo}
-use Rattle.xet_steps.specs.Holders.{Follows, Holder, core_at, core_found, grown}
-use Rattle.xet_steps.specs.Stepping.{SawComplete, SawQuery, SawRegister}
+use Rattle.xet_store.specs.Holders.{Follows, Holder, core_at, core_found, grown}
+use Rattle.xet_store.specs.Stepping.{SawComplete, SawQuery, SawRegister}
 use Rattle.xet_locked_session.specs.Passing.{passing_of}
 use Rattle.xet_locked_session.proofs.Carrying.{core_same, follows_new, found_same, grown_is, limits_same, number_same, tells_same}
 

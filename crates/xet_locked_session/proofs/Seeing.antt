@@ -16,11 +16,11 @@ use Rattle.xet_shard_format.specs.Records.{file_record_hash}
 use Rattle.xet_shard_format.specs.declared.record.FileDataSequenceEntry.{FileDataSequenceEntry as Segment}
 use Rattle.xet_shard_format.specs.declared.record.MDBFileInfo.{MDBFileInfo}
 use Rattle.xet_shared_history.specs.Owned.{AreOwn}
-use Rattle.xet_steps.specs.Recorded.{IsRecorded, RecordedState, core_of}
-use Rattle.xet_steps.specs.theorems.Sound.{sound_core}
-use Rattle.xet_steps.specs.Holders.{Holder, core_at, core_found, grown}
-use Rattle.xet_steps.specs.Stepping.{SawComplete, SawQuery, SawRegister}
-use Rattle.xet_store.specs.Store.{Sound}
+use Rattle.xet_store.specs.Recorded.{IsRecorded, RecordedState, core_of}
+use Rattle.xet_store.specs.theorems.Sound.{sound_core}
+use Rattle.xet_store.specs.Holders.{Holder, core_at, core_found, grown}
+use Rattle.xet_store.specs.Stepping.{SawComplete, SawQuery, SawRegister}
+use Rattle.xet_store_disk.specs.Store.{Sound}
 use Rattle.xet_locked_session.specs.Passes.{SawFlush, flushed_hash}
 use Rattle.xet_locked_session.specs.Session.{IsSince}
 use Rattle.xet_locked_session.specs.internal.Made.{Completed, Flushed, Queried, Registered}

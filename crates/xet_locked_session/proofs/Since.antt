@@ -1,8 +1,8 @@
 -- A session after a step.
 use Rattle.std.proofs.Common.{ℕ, [], ◌++◌, Result, arith}
 use Rattle.xet_hash.specs.declared.error.StoreError.{StoreError}
-use Rattle.xet_steps.specs.Recorded.{RecordedState}
-use Rattle.xet_steps.specs.theorems.Joining.{steps_both, steps_nothing}
+use Rattle.xet_store.specs.Recorded.{RecordedState}
+use Rattle.xet_store.specs.theorems.Joining.{steps_both, steps_nothing}
 use Rattle.xet_locked_session.specs.Session.{IsSince}
 use Rattle.xet_locked_session.specs.internal.Made.{Grew}
 use Rattle.xet_locked_session.proofs.Made.{fault_count-append}

@@ -9,12 +9,12 @@ use Rattle.xet_history.specs.declared.entry.StepKind.TheVariants as kind
 use Rattle.xet_shard_format.specs.Records.{IsFile}
 use Rattle.xet_shard_format.specs.declared.record.FileDataSequenceEntry.{FileDataSequenceEntry as Segment}
 use Rattle.xet_shard_format.specs.declared.record.MDBFileInfo.{MDBFileInfo}
-use Rattle.xet_steps.specs.Changes.{ChangesFiles, Tries}
-use Rattle.xet_steps.specs.Recorded.{RecordedState, core_of}
-use Rattle.xet_steps.specs.theorems.Changing.{files_of_register}
-use Rattle.xet_steps.specs.Steps.{FailsAsking, IsOtherFile, Refuses, fault_entries}
-use Rattle.xet_steps.specs.Alone.{MayBeAsked, Step}
-use Rattle.xet_steps.specs.Holders.{xorb_limits}
+use Rattle.xet_store.specs.Changes.{ChangesFiles, Tries}
+use Rattle.xet_store.specs.Recorded.{RecordedState, core_of}
+use Rattle.xet_store.specs.theorems.Changing.{files_of_register}
+use Rattle.xet_store.specs.Steps.{FailsAsking, IsOtherFile, Refuses, fault_entries}
+use Rattle.xet_store.specs.Alone.{MayBeAsked, Step}
+use Rattle.xet_store.specs.Holders.{xorb_limits}
 use Rattle.xet_xorb.specs.Raw.{raw_leaves}
 use Rattle.xet_xorb.specs.declared.raw.RawXorbData.{RawXorbData}
 use Rattle.xet_locked_session.specs.Shared.{StepOf}

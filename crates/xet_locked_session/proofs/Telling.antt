@@ -7,9 +7,9 @@ use Rattle.xet_history.specs.History.{Legal, pass_of}
 use Rattle.xet_history.specs.declared.entry.Entry.{Entry}
 use Rattle.xet_shared_history.specs.Owned.{AreOwn, numbers_from}
 use Rattle.xet_shared_history.specs.theorems.Owned.{length-numbers_from}
-use Rattle.xet_steps.specs.Recorded.{RecordedState, core_of}
-use Rattle.xet_steps.specs.Steps.{Steps}
-use Rattle.xet_steps.specs.Holders.{Holder}
+use Rattle.xet_store.specs.Recorded.{RecordedState, core_of}
+use Rattle.xet_store.specs.Steps.{Steps}
+use Rattle.xet_store.specs.Holders.{Holder}
 use Rattle.xet_locked_session.specs.Passes.{holder_of}
 use Rattle.xet_locked_session.specs.Session.{IsSince}
 use Rattle.xet_locked_session.proofs.Growing.{legal_after, own_legal}

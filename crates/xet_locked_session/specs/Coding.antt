@@ -5,10 +5,10 @@ use Rattle.xet_cut.specs.declared.limits.LimitSettings.{LimitSettings}
 use Rattle.xet_history.specs.Coding.{core_code, entry_code, history_code}
 use Rattle.xet_history.specs.Core.{Core}
 use Rattle.xet_history.specs.declared.entry.Entry.{Entry}
-use Rattle.xet_steps.specs.Coding.{recorded_code}
-use Rattle.xet_steps.specs.Recorded.{RecordedState}
-use Rattle.xet_steps.specs.Holders.{Holder}
-use Rattle.xet_store.specs.Coding.{limits_code}
+use Rattle.xet_store.specs.Coding.{recorded_code}
+use Rattle.xet_store.specs.Recorded.{RecordedState}
+use Rattle.xet_store.specs.Holders.{Holder}
+use Rattle.xet_store_disk.specs.Coding.{limits_code}
 
 -- numbered entries
 abbrev own_code : Coded (List (ℕ × Entry))

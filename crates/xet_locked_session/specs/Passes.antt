@@ -15,10 +15,10 @@ use Rattle.xet_history.specs.declared.entry.Entry.{Entry}
 use Rattle.xet_history.specs.declared.entry.StepKind.{StepKind}
 use Rattle.xet_history.specs.declared.entry.StepKind.TheVariants as kind
 use Rattle.xet_shard_format.specs.declared.record.MDBFileInfo.{MDBFileInfo}
-use Rattle.xet_steps.specs.Recorded.{RecordedState, core_of}
-use Rattle.xet_steps.specs.Steps.{fault_entries}
-use Rattle.xet_steps.specs.Holders.{Holder, core_found, grown, seen}
-use Rattle.xet_steps.specs.Stepping.{IsStepReason}
+use Rattle.xet_store.specs.Recorded.{RecordedState, core_of}
+use Rattle.xet_store.specs.Steps.{fault_entries}
+use Rattle.xet_store.specs.Holders.{Holder, core_found, grown, seen}
+use Rattle.xet_store.specs.Stepping.{IsStepReason}
 
 -- ---- what a pass has seen
 
@@ -60,7 +60,7 @@ pub record IsPassOf (start : RecordedState) (h : Holder) : Type 0 where
   pub is : h ≡ holder_of start number own since
 
 -- It is in the history under its number, after what was there when the holder began, and has the holder's number. As `IsOwn` of
--- `xet_steps`, but a xorb may have been registered with any further chunks.
+-- `xet_store`, but a xorb may have been registered with any further chunks.
 pub record IsThere (h : Holder) (p : ℕ × Entry) : Type 0 where
   pub there : slice_get (seen h) p.0 ≡ Some p.1
   pub later : length h.before ≤ p.0

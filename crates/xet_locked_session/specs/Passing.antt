@@ -1,6 +1,6 @@
 -- A pass of a session, as a holder that begins where the pass has got to.
 use Rattle.std.specs.Prelude.{◌≡◌, ◌++◌, Bool, false, length, drop}
-use Rattle.xet_steps.specs.Holders.{Follows, Holder, IsHolder, core_at, seen}
+use Rattle.xet_store.specs.Holders.{Follows, Holder, IsHolder, core_at, seen}
 
 -- What contracts see of it: the pass when it began, the pass now, and whether a step has failed.
 pub record PassingState : Type 0 where

@@ -2,7 +2,7 @@
 use Rattle.std.specs.Prelude.{Bool, refl}
 use Rattle.std.specs.Coded.{Coded, code_by, coded×, coded_bool}
 use Rattle.xet_locked_session.specs.Coding.{holder_code}
-use Rattle.xet_steps.specs.Holders.{Holder}
+use Rattle.xet_store.specs.Holders.{Holder}
 use Rattle.xet_locked_session.specs.Passing.{PassingState}
 
 abbrev pub passing_code : Coded PassingState

@@ -2,8 +2,8 @@
 use Rattle.std.specs.Prelude.{ℕ, suc, ◌+◌, ◌-◌, ◌^◌, ◌≤◌, min, List, [], ◌∷◌}
 use Rattle.xet_history.specs.declared.entry.Entry.{Entry}
 use Rattle.xet_history.specs.declared.entry.Entry.TheVariants.{Query, Register, Complete, Flush, Fault}
-use Rattle.xet_steps.specs.Recorded.{RecordedState}
-use Rattle.xet_steps.specs.Steps.{Steps}
+use Rattle.xet_store.specs.Recorded.{RecordedState}
+use Rattle.xet_store.specs.Steps.{Steps}
 
 -- how many of the entries are failures of the disk
 abbrev pub fault_count : List Entry → ℕ

@@ -10,11 +10,11 @@ use Rattle.xet_history.specs.declared.entry.Entry.{Entry}
 use Rattle.xet_shard_format.specs.Records.{IsFile}
 use Rattle.xet_shard_format.specs.declared.record.FileDataSequenceEntry.{FileDataSequenceEntry as Segment}
 use Rattle.xet_shard_format.specs.declared.record.MDBFileInfo.{MDBFileInfo}
-use Rattle.xet_steps.specs.Changes.{ChangesFiles, files_of}
-use Rattle.xet_steps.specs.Recorded.{RecordedState, core_of}
-use Rattle.xet_steps.specs.Steps.{fault_entries}
-use Rattle.xet_steps.specs.Alone.{MayBeAsked, Step, cut_of, kind_of}
-use Rattle.xet_steps.specs.Holders.{xorb_limits}
+use Rattle.xet_store.specs.Changes.{ChangesFiles, files_of}
+use Rattle.xet_store.specs.Recorded.{RecordedState, core_of}
+use Rattle.xet_store.specs.Steps.{fault_entries}
+use Rattle.xet_store.specs.Alone.{MayBeAsked, Step, cut_of, kind_of}
+use Rattle.xet_store.specs.Holders.{xorb_limits}
 
 -- These are the entries of one completed step of a pass, from a core on: a query, the registration of a xorb, or the recording of
 -- a file. So a flush among them was due before the entry that follows it. A xorb is within the limits, and is registered with the
@@ -26,7 +26,7 @@ pub data StepOf (limits : LimitSettings) (pass : ℕ) (c : Core) : List Entry �
       → StepOf limits pass c (register_entries pass c limits.shard_target leaves next)
   completes : (file : MDBFileInfo) → IsFile file → Completes c.xorbs file → StepOf limits pass c (complete_entries pass c limits.shard_target file)
 
--- From a core on, these are the entries of completed steps, each of some pass. As `StepsTo` of `xet_steps`, whose steps are all
+-- From a core on, these are the entries of completed steps, each of some pass. As `StepsTo` of `xet_store`, whose steps are all
 -- of one pass.
 pub data StepsBy (limits : LimitSettings) (c : Core) : List Entry → Type 0 where
   begins : StepsBy limits c []

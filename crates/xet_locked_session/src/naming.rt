@@ -8,7 +8,7 @@ use std::sync::ledger::Ledger;
 pub trait Naming: Ledger {
     ghost use Rattle.std.specs.Prelude.{Bool};
     ghost use Rattle.atomic_table.specs.Seated.{TableId};
-    ghost use Rattle.xet_steps.specs.Recorded.{RecordedState};
+    ghost use Rattle.xet_store.specs.Recorded.{RecordedState};
 
     /// The table, which counts the history from when the session was made.
     ghost table: { TableId };

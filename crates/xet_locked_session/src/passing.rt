@@ -13,7 +13,7 @@ use xet_ghost::Ghost;
 use xet_hash::{MerkleHash, StoreError};
 use xet_io::Disk;
 use xet_shard_format::{FileDataSequenceEntry, MDBFileInfo};
-use xet_steps::Stepping;
+use xet_store::Stepping;
 use xet_xorb::RawXorbData;
 
 /// A pass of a session, which makes steps of its store, each in one hold of the lock. Contracts see a `PassingState`.

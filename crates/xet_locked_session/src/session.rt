@@ -21,7 +21,7 @@ use std::sync::ledger::{Blank, Book, Share};
 use xet_cut::Limits;
 use xet_io::Disk;
 use xet_shared_history::{HistoryWord, Reader, Writer};
-use xet_steps::Store;
+use xet_store::Store;
 
 /// A store, with a type that names what it was when the session was made. Contracts see the store.
 #[derive(Drop)]
@@ -31,8 +31,8 @@ pub struct NamedStore<D: Disk, J: Naming> {
 }
 
 impl<D: Disk, J: Naming> Model for NamedStore<D, J> {
-    ghost use Rattle.xet_steps.specs.Coding.{recorded_code};
-    ghost use Rattle.xet_steps.specs.Recorded.{RecordedState};
+    ghost use Rattle.xet_store.specs.Coding.{recorded_code};
+    ghost use Rattle.xet_store.specs.Recorded.{RecordedState};
     ghost use Rattle.xet_locked_session.specs.Session.{IsSince};
 
     ghost Value = { RecordedState };
@@ -64,8 +64,8 @@ pub struct Log<J: Naming> {
 
 impl<D: Disk, J: Naming> Model for Desk<D, J> {
     ghost use Rattle.std.specs.Prelude.{◌≡◌, ◌++◌, length};
-    ghost use Rattle.xet_steps.specs.Coding.{recorded_code};
-    ghost use Rattle.xet_steps.specs.Recorded.{RecordedState};
+    ghost use Rattle.xet_store.specs.Coding.{recorded_code};
+    ghost use Rattle.xet_store.specs.Recorded.{RecordedState};
 
     ghost Value = { RecordedState };
 
@@ -88,8 +88,8 @@ pub struct Guarded<D: Disk, J: Naming> {
 
 impl<D: Disk, J: Naming> Model for Guarded<D, J> {
     ghost use Rattle.std.specs.Prelude.{◌≡◌};
-    ghost use Rattle.xet_steps.specs.Coding.{recorded_code};
-    ghost use Rattle.xet_steps.specs.Recorded.{RecordedState};
+    ghost use Rattle.xet_store.specs.Coding.{recorded_code};
+    ghost use Rattle.xet_store.specs.Recorded.{RecordedState};
     ghost use Rattle.xet_locked_session.specs.internal.Guarded.{IsGuarded};
 
     ghost Value = { RecordedState };
@@ -123,8 +123,8 @@ impl<J: Naming> Model for Pass<J> {
     ghost use Rattle.std.specs.Prelude.{◌≡◌, ◌++◌, length};
     ghost use Rattle.xet_history.specs.History.{Legal};
     ghost use Rattle.xet_shared_history.specs.Owned.{AreOwn};
-    ghost use Rattle.xet_steps.specs.Holders.{Holder};
-    ghost use Rattle.xet_steps.specs.Recorded.{core_of};
+    ghost use Rattle.xet_store.specs.Holders.{Holder};
+    ghost use Rattle.xet_store.specs.Recorded.{core_of};
     ghost use Rattle.xet_locked_session.specs.Coding.{holder_code};
     ghost use Rattle.xet_locked_session.specs.Passes.{holder_of};
 

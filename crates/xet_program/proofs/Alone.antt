@@ -10,7 +10,7 @@ use Rattle.xet_io.specs.Disk.{Files, entry_at}
 use Rattle.xet_io.specs.Named.{Named}
 use Rattle.xet_folder.specs.Names.{IsForeign}
 use Rattle.xet_folder.specs.declared.contents.Contents.{Contents}
-use Rattle.xet_store.specs.Store.{Differ, recorded_files}
+use Rattle.xet_store_disk.specs.Store.{Differ, recorded_files}
 use Rattle.xet_program.specs.declared.ending.Stop.{Stop}
 use Rattle.xet_program.specs.declared.ending.Stop.TheVariants as stop
 use Rattle.xet_program.specs.internal.Answered.{Answered}

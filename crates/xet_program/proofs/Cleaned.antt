@@ -19,11 +19,11 @@ use Rattle.xet_hash.specs.declared.error.StoreError.TheVariants as error
 use Rattle.xet_hash.specs.declared.error.Place.TheVariants as place
 use Rattle.xet_hash.specs.declared.error.What.TheVariants as what
 use Rattle.xet_cut.specs.declared.limits.LimitSettings.{LimitSettings}
-use Rattle.xet_store.specs.declared.info.XetFileInfo.{XetFileInfo}
+use Rattle.xet_store_disk.specs.declared.info.XetFileInfo.{XetFileInfo}
 use Rattle.xet_cut.specs.Chunking.{chunking}
 use Rattle.xet_clean.specs.Cleaning.{HasReason, entries_since, files_in}
-use Rattle.xet_store.specs.Cleaning.{EachTold, IsLongAt, RoseAt, chunkings, info_of}
-use Rattle.xet_steps.specs.Recorded.{RecordedState}
+use Rattle.xet_store_disk.specs.Cleaning.{EachTold, IsLongAt, RoseAt, chunkings, info_of}
+use Rattle.xet_store.specs.Recorded.{RecordedState}
 use Rattle.xet_workers.specs.Cleaning.{AreChosenBy}
 use Rattle.xet_program.specs.declared.ending.Stop.{Stop}
 use Rattle.xet_program.specs.declared.ending.Stop.TheVariants as stop

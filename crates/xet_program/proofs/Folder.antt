@@ -18,16 +18,16 @@ use Rattle.xet_history.specs.Sound.{IsKey}
 use Rattle.xet_io.specs.Disk.{Files}
 use Rattle.xet_io.specs.Named.{Named}
 use Rattle.xet_shard_file.specs.Shards.{IsThere, Registers, ShardFile}
-use Rattle.xet_store.specs.Cleaning.{Keeps}
-use Rattle.xet_store.specs.Opening.{IsOpened, contents_of}
-use Rattle.xet_store.specs.Ranges.{IsRange}
-use Rattle.xet_store.specs.Separate.{Among, MetChunk}
-use Rattle.xet_store.specs.Store.{Differ, Sound, State, recorded_files}
-use Rattle.xet_store.specs.theorems.Admitting.{of_any, one_of}
-use Rattle.xet_store.specs.theorems.Rows.{from_among}
-use Rattle.xet_steps.specs.Recorded.{IsRecorded, RecordedState, core_of}
-use Rattle.xet_steps.specs.theorems.Lasting.{shard_readable}
-use Rattle.xet_steps.specs.theorems.Sound.{among_map}
+use Rattle.xet_store_disk.specs.Cleaning.{Keeps}
+use Rattle.xet_store_disk.specs.Opening.{IsOpened, contents_of}
+use Rattle.xet_store_disk.specs.Ranges.{IsRange}
+use Rattle.xet_store_disk.specs.Separate.{Among, MetChunk}
+use Rattle.xet_store_disk.specs.Store.{Differ, Sound, State, recorded_files}
+use Rattle.xet_store_disk.specs.theorems.Admitting.{of_any, one_of}
+use Rattle.xet_store_disk.specs.theorems.Rows.{from_among}
+use Rattle.xet_store.specs.Recorded.{IsRecorded, RecordedState, core_of}
+use Rattle.xet_store.specs.theorems.Lasting.{shard_readable}
+use Rattle.xet_store.specs.theorems.Sound.{among_map}
 use Rattle.xet_program.specs.declared.ending.Stop.{Stop}
 use Rattle.xet_program.specs.declared.ending.Stop.TheVariants as stop
 use Rattle.xet_program.specs.Answers.{IsRangeOf, listed_line}

@@ -10,12 +10,12 @@ use Rattle.xet_hash.specs.Hash.{zero_hash}
 use Rattle.xet_hash.specs.Merkle.{file_hash, leaf_of, leaves_of}
 use Rattle.xet_io.specs.Disk.{Files}
 use Rattle.xet_shard_format.specs.declared.record.MDBFileInfo.{MDBFileInfo}
-use Rattle.xet_store.specs.Cleaning.{Keeps}
-use Rattle.xet_store.specs.Opening.{IsOpened, contents_of}
-use Rattle.xet_store.specs.Separate.{Among, HasChunks as HasListed}
-use Rattle.xet_store.specs.Store.{Sound, State, plan_of}
-use Rattle.xet_store.specs.theorems.Plans.{resolves_among, resolves_map}
-use Rattle.xet_store.specs.theorems.Whole.{found_has, mapped, same_key}
+use Rattle.xet_store_disk.specs.Cleaning.{Keeps}
+use Rattle.xet_store_disk.specs.Opening.{IsOpened, contents_of}
+use Rattle.xet_store_disk.specs.Separate.{Among, HasChunks as HasListed}
+use Rattle.xet_store_disk.specs.Store.{Sound, State, plan_of}
+use Rattle.xet_store_disk.specs.theorems.Plans.{resolves_among, resolves_map}
+use Rattle.xet_store_disk.specs.theorems.Whole.{found_has, mapped, same_key}
 use Rattle.xet_program.specs.declared.ending.Stop.{Stop}
 use Rattle.xet_program.specs.Ending.{CanOpen}
 use Rattle.xet_program.specs.Making.{HasChunk, HasChunks, IsMadeText, both_files}

@@ -10,12 +10,12 @@ use Rattle.xet_shard_file.specs.Names.{shard_path}
 use Rattle.xet_folder.specs.Names.{IsForeign, xorb_path}
 use Rattle.xet_shard_file.specs.Shards.{IsThere}
 use Rattle.xet_cut.specs.declared.limits.LimitSettings.{LimitSettings}
-use Rattle.xet_store.specs.Cleaning.{HasShard, HasWholeShard, HasXorb, IsDurable, Keeps, SameEntry}
-use Rattle.xet_store.specs.Opening.{IsOpened, contents_of}
-use Rattle.xet_store.specs.Separate.{IsNamed}
-use Rattle.xet_store.specs.Store.{Sound, State}
-use Rattle.xet_store.specs.theorems.Sessions.{resolves_stay, listed_stay, named_newly, named_same, valid_stays}
-use Rattle.xet_steps.specs.Recorded.{IsRecorded, RecordedState}
+use Rattle.xet_store_disk.specs.Cleaning.{HasShard, HasWholeShard, HasXorb, IsDurable, Keeps, SameEntry}
+use Rattle.xet_store_disk.specs.Opening.{IsOpened, contents_of}
+use Rattle.xet_store_disk.specs.Separate.{IsNamed}
+use Rattle.xet_store_disk.specs.Store.{Sound, State}
+use Rattle.xet_store_disk.specs.theorems.Sessions.{resolves_stay, listed_stay, named_newly, named_same, valid_stays}
+use Rattle.xet_store.specs.Recorded.{IsRecorded, RecordedState}
 use Rattle.xet_program.specs.Ending.{CanOpen}
 use Rattle.xet_program.specs.Tasks.{store_folder}
 use Rattle.xet_program.specs.Stored.{KeepsFolder, KeepsListed}

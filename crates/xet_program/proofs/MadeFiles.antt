@@ -27,14 +27,14 @@ use Rattle.xet_history.specs.declared.entry.Entry.TheVariants.{Query, Register, 
 use Rattle.xet_shard_format.specs.Records.{file_record_hash}
 use Rattle.xet_shard_format.specs.declared.record.FileDataSequenceEntry.{FileDataSequenceEntry as Segment}
 use Rattle.xet_shard_format.specs.declared.record.MDBFileInfo.{MDBFileInfo}
-use Rattle.xet_steps.specs.Holders.{calls_in, numbered}
+use Rattle.xet_store.specs.Holders.{calls_in, numbered}
 use Rattle.xet_io.specs.Faults.{HasCause}
-use Rattle.xet_steps.specs.Recorded.{RecordedState, core_of}
-use Rattle.xet_steps.specs.Steps.{Steps}
-use Rattle.xet_store.specs.declared.info.XetFileInfo.{XetFileInfo}
-use Rattle.xet_store.specs.Cleaning.{Keeps, info_of}
-use Rattle.xet_store.specs.Separate.{Among, MetChunk}
-use Rattle.xet_store.specs.Store.{State, plan_of}
+use Rattle.xet_store.specs.Recorded.{RecordedState, core_of}
+use Rattle.xet_store.specs.Steps.{Steps}
+use Rattle.xet_store_disk.specs.declared.info.XetFileInfo.{XetFileInfo}
+use Rattle.xet_store_disk.specs.Cleaning.{Keeps, info_of}
+use Rattle.xet_store_disk.specs.Separate.{Among, MetChunk}
+use Rattle.xet_store_disk.specs.Store.{State, plan_of}
 use Rattle.xet_workers.specs.Cleaning.{AreChosenBy, IsCleanedBy}
 use Rattle.xet_program.specs.declared.ending.Stop.{Stop}
 use Rattle.xet_program.specs.declared.ending.Stop.TheVariants as stop

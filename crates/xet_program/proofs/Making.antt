@@ -13,7 +13,7 @@ use Rattle.xet_folder.specs.Contents.{IsRecord}
 use Rattle.xet_folder.specs.Listed.{Lists}
 use Rattle.xet_folder.specs.Xorbs.{found}
 use Rattle.xet_cut.specs.declared.limits.LimitSettings.{LimitSettings}
-use Rattle.xet_store.specs.Cleaning.{Keeps}
+use Rattle.xet_store_disk.specs.Cleaning.{Keeps}
 use Rattle.xet_cut.specs.Chunking.{chunking}
 use Rattle.xet_dedup.specs.Records.{file_record}
 use Rattle.xet_clean.specs.Cleaning.{RecordsFile}
@@ -25,17 +25,17 @@ use Rattle.xet_history.specs.declared.entry.Entry.{Entry}
 use Rattle.xet_history.specs.declared.entry.Entry.TheVariants.{Complete, Flush}
 use Rattle.xet_history.specs.theorems.Lasting.{IsAdded, added_first, added_lasts, here_more, known_completed}
 use Rattle.xet_history.specs.theorems.Staying.{new_if_none}
-use Rattle.xet_store.specs.Flushing.{IsFlushed}
-use Rattle.xet_store.specs.Opening.{IsOpened}
-use Rattle.xet_store.specs.Ranges.{IsUnchanged}
-use Rattle.xet_store.specs.Store.{IsKept, Sound, State}
-use Rattle.xet_store.specs.theorems.Admitting.{one_of}
-use Rattle.xet_store.specs.theorems.Rows.{to_among}
-use Rattle.xet_store.specs.theorems.Whole.{found_has}
-use Rattle.xet_steps.specs.Recorded.{IsRecorded, RecordedState, core_of}
-use Rattle.xet_steps.specs.Steps.{Steps}
-use Rattle.xet_steps.specs.theorems.Joining.{steps_both, steps_unread}
-use Rattle.xet_steps.specs.theorems.Lasting.{lasting_listed}
+use Rattle.xet_store_disk.specs.Flushing.{IsFlushed}
+use Rattle.xet_store_disk.specs.Opening.{IsOpened}
+use Rattle.xet_store_disk.specs.Ranges.{IsUnchanged}
+use Rattle.xet_store_disk.specs.Store.{IsKept, Sound, State}
+use Rattle.xet_store_disk.specs.theorems.Admitting.{one_of}
+use Rattle.xet_store_disk.specs.theorems.Rows.{to_among}
+use Rattle.xet_store_disk.specs.theorems.Whole.{found_has}
+use Rattle.xet_store.specs.Recorded.{IsRecorded, RecordedState, core_of}
+use Rattle.xet_store.specs.Steps.{Steps}
+use Rattle.xet_store.specs.theorems.Joining.{steps_both, steps_unread}
+use Rattle.xet_store.specs.theorems.Lasting.{lasting_listed}
 use Rattle.xet_program.specs.Tasks.{store_folder}
 use Rattle.xet_program.specs.Report.{hash_of_file}
 use Rattle.xet_program.specs.internal.Cleaned.{RecordsHash}

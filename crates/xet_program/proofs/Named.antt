@@ -5,10 +5,10 @@ use Rattle.std.specs.Result.{IsErrOf}
 use Rattle.xet_cut.specs.declared.limits.LimitSettings.{LimitSettings}
 use Rattle.xet_io.specs.Disk.{Files}
 use Rattle.xet_io.specs.Named.{Named}
-use Rattle.xet_store.specs.Cleaning.{Keeps}
-use Rattle.xet_store.specs.Opening.{IsOpened, contents_of}
-use Rattle.xet_steps.specs.Recorded.{RecordedState}
-use Rattle.xet_store.specs.Store.{Sound, State}
+use Rattle.xet_store_disk.specs.Cleaning.{Keeps}
+use Rattle.xet_store_disk.specs.Opening.{IsOpened, contents_of}
+use Rattle.xet_store.specs.Recorded.{RecordedState}
+use Rattle.xet_store_disk.specs.Store.{Sound, State}
 use Rattle.xet_program.specs.declared.ending.Stop.{Stop}
 use Rattle.xet_program.specs.declared.ending.Stop.TheVariants as stop
 use Rattle.xet_program.specs.Allowed.{are_short}

@@ -5,9 +5,9 @@ use Rattle.std.specs.FinMap.{get}
 use Rattle.std.specs.List.{Any, AllByRecursion}
 use Rattle.xet_io.specs.Faults.{Rose}
 use Rattle.xet_io.specs.Named.{Named}
-use Rattle.xet_store.specs.Cleaning.{RoseAt}
+use Rattle.xet_store_disk.specs.Cleaning.{RoseAt}
 use Rattle.xet_clean.specs.Cleaning.{AreApartUnder, NoneEnds}
-use Rattle.xet_steps.specs.Recorded.{RecordedState}
+use Rattle.xet_store.specs.Recorded.{RecordedState}
 use Rattle.xet_program.specs.declared.ending.Stop.{Stop}
 use Rattle.xet_program.specs.declared.ending.Stop.TheVariants as stop
 use Rattle.xet_program.specs.Answers.{AreNamed}

@@ -21,7 +21,7 @@ use Rattle.xet_program.specs.Early.{Outcome, bad_line_text, by_lines, lines_said
 use Rattle.xet_program.specs.Tasks.{IsIdle, store_folder}
 use Rattle.xet_program.specs.Allowed.{are_short}
 use Rattle.xet_program.specs.Reasons.{AreApart, IsMalformed}
-use Rattle.xet_steps.specs.Recorded.{RecordedState}
+use Rattle.xet_store.specs.Recorded.{RecordedState}
 use Rattle.xet_program.specs.internal.Answered.{Answered}
 use Rattle.xet_program.specs.Answers.{PackAnswer}
 use Rattle.xet_program.specs.Ending.{CanOpen, HasOpened, MayEnd}

@@ -6,11 +6,11 @@ use Rattle.std.specs.Result.{IsErrOf}
 use Rattle.xet_hash.specs.declared.error.StoreError.{StoreError}
 use Rattle.xet_hash.specs.declared.error.StoreError.TheVariants.{FileNotFound, InvalidRange}
 use Rattle.xet_shard_format.specs.declared.record.FileDataSequenceEntry.{FileDataSequenceEntry as Segment}
-use Rattle.xet_store.specs.Cleaning.{Keeps}
-use Rattle.xet_store.specs.Ranges.{IsOutside, IsUnchanged}
-use Rattle.xet_store.specs.Store.{State, plan_of}
-use Rattle.xet_store.specs.declared.info.XetFileInfo.{XetFileInfo}
-use Rattle.xet_store.specs.theorems.Keeping.{keeps_counted}
+use Rattle.xet_store_disk.specs.Cleaning.{Keeps}
+use Rattle.xet_store_disk.specs.Ranges.{IsOutside, IsUnchanged}
+use Rattle.xet_store_disk.specs.Store.{State, plan_of}
+use Rattle.xet_store_disk.specs.declared.info.XetFileInfo.{XetFileInfo}
+use Rattle.xet_store_disk.specs.theorems.Keeping.{keeps_counted}
 use Rattle.xet_program.specs.declared.lines.FileRange.{FileRange}
 use Rattle.xet_program.specs.internal.Steps.{AreRead, IsLineRead}
 

@@ -7,9 +7,9 @@ use Rattle.std.specs.List.{AllByRecursion, flat_map}
 use Rattle.xet_io.specs.Faults.{HasCause}
 use Rattle.xet_io.specs.Named.{Named}
 use Rattle.xet_clean.specs.declared.info.Cleaned.{Cleaned}
-use Rattle.xet_store.specs.declared.info.XetFileInfo.{XetFileInfo}
-use Rattle.xet_store.specs.Cleaning.{info_of}
-use Rattle.xet_steps.specs.Recorded.{RecordedState}
+use Rattle.xet_store_disk.specs.declared.info.XetFileInfo.{XetFileInfo}
+use Rattle.xet_store_disk.specs.Cleaning.{info_of}
+use Rattle.xet_store.specs.Recorded.{RecordedState}
 use Rattle.xet_program.specs.declared.ending.Stop.{Stop}
 use Rattle.xet_program.specs.declared.ending.Stop.TheVariants as stop
 use Rattle.xet_program.specs.declared.lines.FileRange.{FileRange}

@@ -9,27 +9,27 @@ use Rattle.xet_folder.specs.Listed.{ResolvesTo, Lists}
 use Rattle.xet_folder.specs.Plan.{range}
 use Rattle.xet_folder.specs.Xorbs.{Xorbs, found}
 use Rattle.xet_cut.specs.declared.limits.LimitSettings.{LimitSettings}
-use Rattle.xet_store.specs.declared.info.XetFileInfo.{XetFileInfo}
-use Rattle.xet_store.specs.Cleaning.{HasFile, Keeps, info_of}
+use Rattle.xet_store_disk.specs.declared.info.XetFileInfo.{XetFileInfo}
+use Rattle.xet_store_disk.specs.Cleaning.{HasFile, Keeps, info_of}
 use Rattle.xet_cut.specs.Chunking.{chunking}
 use Rattle.xet_cut.specs.Limits.{AreInRange}
-use Rattle.xet_store.specs.Opening.{contents_of}
-use Rattle.xet_store.specs.Ranges.{IsRange}
-use Rattle.xet_store.specs.Separate.{Among, IsNamed, Separate, SeparateIn}
-use Rattle.xet_store.specs.Store.{State, Sound}
+use Rattle.xet_store_disk.specs.Opening.{contents_of}
+use Rattle.xet_store_disk.specs.Ranges.{IsRange}
+use Rattle.xet_store_disk.specs.Separate.{Among, IsNamed, Separate, SeparateIn}
+use Rattle.xet_store_disk.specs.Store.{State, Sound}
 use Rattle.xet_history.specs.Core.{Core, is_new}
 use Rattle.xet_history.specs.History.{after_all}
 use Rattle.xet_history.specs.declared.entry.Entry.{Entry}
 use Rattle.xet_history.specs.theorems.Naming.{InShard, Names, OfXorb, listed_named}
 use Rattle.xet_history.specs.theorems.Staying.{Leaves, new_if_none, not_new_if_found}
 use Rattle.xet_shard.specs.Held.{Held}
-use Rattle.xet_steps.specs.Recorded.{IsRecorded, RecordedState, core_of}
-use Rattle.xet_steps.specs.Steps.{Steps}
-use Rattle.xet_steps.specs.theorems.Joining.{steps_both}
-use Rattle.xet_steps.specs.theorems.Lasting.{in_shard_named}
-use Rattle.xet_store.specs.theorems.Keeping.{keeps_then}
-use Rattle.xet_store.specs.theorems.Rows.{is_some_found}
-use Rattle.xet_store.specs.theorems.Sessions.{has_file_stays, named_stays, range_of_file, recorded_by_folder, separate_by_folder}
+use Rattle.xet_store.specs.Recorded.{IsRecorded, RecordedState, core_of}
+use Rattle.xet_store.specs.Steps.{Steps}
+use Rattle.xet_store.specs.theorems.Joining.{steps_both}
+use Rattle.xet_store.specs.theorems.Lasting.{in_shard_named}
+use Rattle.xet_store_disk.specs.theorems.Keeping.{keeps_then}
+use Rattle.xet_store_disk.specs.theorems.Rows.{is_some_found}
+use Rattle.xet_store_disk.specs.theorems.Sessions.{has_file_stays, named_stays, range_of_file, recorded_by_folder, separate_by_folder}
 use Rattle.xet_program.specs.declared.ending.Stop.{Stop}
 use Rattle.xet_program.specs.declared.lines.FileRange.{FileRange}
 use Rattle.xet_program.specs.Lines.{Line, bytes_in, files_of, numbered, range_bytes}

@@ -15,8 +15,8 @@ use Rattle.xet_folder.specs.Plan.{Resolves, plan_bytes, range}
 use Rattle.xet_folder.specs.Stored.{IsStored}
 use Rattle.xet_folder.specs.Xorbs.{FileRecords}
 use Rattle.xet_folder.specs.declared.contents.Contents.{Contents}
-use Rattle.xet_store.specs.Separate.{SeparateIn}
-use Rattle.xet_store.specs.Store.{Differ, plan_of, recorded_files}
+use Rattle.xet_store_disk.specs.Separate.{SeparateIn}
+use Rattle.xet_store_disk.specs.Store.{Differ, plan_of, recorded_files}
 use Rattle.xet_program.specs.Words.{Command}
 use Rattle.xet_program.specs.Words.Command.{Pack, Clean, Make, Read, ListFiles, Group}
 use Rattle.xet_program.specs.Start.{Start}

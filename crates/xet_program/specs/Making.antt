@@ -9,8 +9,8 @@ use Rattle.xet_cut.specs.Generator.{generated}
 use Rattle.xet_folder.specs.Stored.{IsStored}
 use Rattle.xet_folder.specs.Xorbs.{AreBacked, Xorbs, found}
 use Rattle.xet_folder.specs.declared.contents.Contents.{Contents}
-use Rattle.xet_store.specs.Separate.{Among}
-use Rattle.xet_store.specs.Store.{Differ}
+use Rattle.xet_store_disk.specs.Separate.{Among}
+use Rattle.xet_store_disk.specs.Store.{Differ}
 use Rattle.xet_program.specs.Report.{hash_of_file}
 use Rattle.xet_program.specs.Tasks.{default_limits, store_folder}
 

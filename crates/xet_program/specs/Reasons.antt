@@ -11,7 +11,7 @@ use Rattle.xet_shard_format.specs.Reading.{ShardParts, all_of}
 use Rattle.xet_folder.specs.Admission.{key_of}
 use Rattle.xet_folder.specs.Contents.{max_shards}
 use Rattle.xet_folder.specs.Stored.{IsStored}
-use Rattle.xet_store.specs.Separate.{Among}
+use Rattle.xet_store_disk.specs.Separate.{Among}
 use Rattle.xet_program.specs.Words.{Command}
 use Rattle.xet_program.specs.Words.Command.{Pack, Clean, Make, Read}
 use Rattle.xet_program.specs.Start.{Observes, Start}

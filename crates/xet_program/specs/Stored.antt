@@ -7,8 +7,8 @@ use Rattle.sha2.specs.Sha256.{sha256}
 use Rattle.xet_hash.specs.Merkle.{leaves_of}
 use Rattle.xet_cut.specs.declared.limits.LimitSettings.{LimitSettings}
 use Rattle.xet_cut.specs.Chunking.{chunking}
-use Rattle.xet_store.specs.Cleaning.{HasShard, HasXorb, IsDurable, SameEntry}
-use Rattle.xet_store.specs.Separate.{IsNamed, SeparateIn}
+use Rattle.xet_store_disk.specs.Cleaning.{HasShard, HasXorb, IsDurable, SameEntry}
+use Rattle.xet_store_disk.specs.Separate.{IsNamed, SeparateIn}
 use Rattle.xet_dedup.specs.Records.{file_record}
 use Rattle.xet_folder.specs.Admission.{Admits}
 use Rattle.xet_folder.specs.Listed.{ResolvesTo, Lists}

@@ -7,8 +7,8 @@ ghost use Rattle.xet_folder.specs.Contents.{HasContents};
 ghost use Rattle.xet_folder.specs.Names.{IsForeign};
 ghost use Rattle.xet_io.specs.Faults.{HasCause};
 ghost use Rattle.xet_io.specs.Frame.{Called, Queried};
-ghost use Rattle.xet_store.specs.Cleaning.{Keeps};
-ghost use Rattle.xet_store.specs.Opening.{contents_of};
+ghost use Rattle.xet_store_disk.specs.Cleaning.{Keeps};
+ghost use Rattle.xet_store_disk.specs.Opening.{contents_of};
 ghost use Rattle.xet_program.specs.Stored.{IsAdmittedAt, KeepsFolder, KeepsListed};
 ghost use Rattle.xet_program.specs.Tasks.{IsIdle, store_folder};
 ghost use Rattle.xet_program.specs.internal.Cleaned.{AreOpened, IsCleanText, IsCleaned};
@@ -24,7 +24,7 @@ use std::marker::{Send, Sync};
 use std::sync::Wait;
 use std::thread::Threads;
 use xet_io::{Disk, Inputs, Refusal};
-use xet_steps::Store;
+use xet_store::Store;
 
 /// Stores the files with these names in the folder `store` of a disk, and returns the disk and the line of each, or
 /// why it stops. Every file that was opened is closed. `now` is the time in seconds since 1970.

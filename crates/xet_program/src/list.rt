@@ -3,7 +3,7 @@
 ghost use Rattle.std.specs.Prelude.{◌≡◌, ◌++◌, IfErr, IfOk, OnOk, IsErrOf, IsOkUnless};
 ghost use Rattle.std.specs.List.{flat_map};
 ghost use Rattle.xet_io.specs.Frame.{Called};
-ghost use Rattle.xet_store.specs.Store.{Differ, recorded_files};
+ghost use Rattle.xet_store_disk.specs.Store.{Differ, recorded_files};
 ghost use Rattle.xet_program.specs.Answers.{listed_line};
 ghost use Rattle.xet_program.specs.internal.Stops.{ForValid, IsStop, folder_causes};
 
@@ -14,7 +14,7 @@ use std::alloc::Global;
 use std::marker::Send;
 use xet_hash::MerkleHash;
 use xet_io::Disk;
-use xet_store::Store;
+use xet_store_disk::Store;
 
 /// Returns the disk, and a line for each file of the store in the folder `store` of the disk, or why it stops.
 /// `now` is the time in seconds since 1970.

@@ -7,7 +7,7 @@ ghost use Rattle.xet_cut.specs.Generator.{generated};
 ghost use Rattle.xet_folder.specs.Names.{IsForeign};
 ghost use Rattle.xet_io.specs.Faults.{HasCause};
 ghost use Rattle.xet_io.specs.Frame.{Called};
-ghost use Rattle.xet_store.specs.Cleaning.{Keeps};
+ghost use Rattle.xet_store_disk.specs.Cleaning.{Keeps};
 ghost use Rattle.xet_program.specs.Making.{IsMadeText, both_files, with_byte_inserted};
 ghost use Rattle.xet_program.specs.Stored.{IsAdmittedAt, KeepsFolder, KeepsListed};
 ghost use Rattle.xet_program.specs.Tasks.{default_limits, store_folder};
@@ -25,7 +25,7 @@ use std::sync::Wait;
 use std::thread::Threads;
 use xet_cut::generated;
 use xet_io::{Disk, SliceSource};
-use xet_steps::Store;
+use xet_store::Store;
 
 /// The number of chunks of a file, and of those that were new.
 #[derive(Clone, Copy, Debug)]

@@ -28,7 +28,7 @@ use std::sync::Wait;
 use std::thread::Threads;
 use xet_cut::Limits;
 use xet_io::{Disk, Source, read_all};
-use xet_steps::Store;
+use xet_store::Store;
 
 /// The maximum length of an input, in bytes.
 pub const MAX_INPUT: usize = 1 << 31;

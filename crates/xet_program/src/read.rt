@@ -3,7 +3,7 @@
 ghost use Rattle.std.specs.Prelude.{◌≡◌, ◌-◌, ◌≤◌, true, length, IfErr, IfOk, OnOk, IsErrOf};
 ghost use Rattle.xet_io.specs.Faults.{HasCause};
 ghost use Rattle.xet_io.specs.Frame.{Called};
-ghost use Rattle.xet_store.specs.Ranges.{IsRange, IsUnchanged};
+ghost use Rattle.xet_store_disk.specs.Ranges.{IsRange, IsUnchanged};
 ghost use Rattle.xet_program.specs.Answers.{IsRangeOf};
 ghost use Rattle.xet_program.specs.internal.Stops.{ForValid, IsStop, finding_causes, reading_range_causes, stop_of_read};
 
@@ -14,7 +14,7 @@ use std::alloc::Global;
 use std::marker::Send;
 use xet_hash::{MerkleHash, StoreError};
 use xet_io::Disk;
-use xet_store::Store;
+use xet_store_disk::Store;
 
 /// Returns the disk, and bytes FROM..TO, TO excluded, of a file of the store in the folder `store` of the disk, or
 /// why it stops. `now` is the time in seconds since 1970.

@@ -7,7 +7,7 @@ ghost use Rattle.xet_program.specs.internal.Report.{info_line};
 
 use crate::ending::Stop;
 use std::alloc::Global;
-use xet_store::XetFileInfo;
+use xet_store_disk::XetFileInfo;
 
 /// The line of each file, in order. The only error is `OutOfMemory`.
 pub fn report(alloc: Global, infos: &[XetFileInfo]) -> Result<Vec<u8>, Stop>

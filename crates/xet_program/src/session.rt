@@ -4,10 +4,10 @@ ghost use Rattle.std.specs.List.{AllByRecursion, flat_map};
 ghost use Rattle.std.specs.Prelude.{◌≡◌, ◌≤◌, ◌<◌, ◌^◌, ◌++◌, ℕ, List, true, length, map, All, IfErr, IfOk, OnOk, IsErrOf, IsOkUnless, IsSome};
 ghost use Rattle.xet_folder.specs.Contents.{HasContents};
 ghost use Rattle.xet_io.specs.Faults.{HasCause};
-ghost use Rattle.xet_store.specs.Cleaning.{Keeps};
-ghost use Rattle.xet_store.specs.Opening.{contents_of};
-ghost use Rattle.xet_store.specs.Ranges.{IsUnchanged};
-ghost use Rattle.xet_store.specs.Store.{plan_of};
+ghost use Rattle.xet_store_disk.specs.Cleaning.{Keeps};
+ghost use Rattle.xet_store_disk.specs.Opening.{contents_of};
+ghost use Rattle.xet_store_disk.specs.Ranges.{IsUnchanged};
+ghost use Rattle.xet_store_disk.specs.Store.{plan_of};
 ghost use Rattle.xet_program.specs.Tasks.{store_folder};
 ghost use Rattle.xet_program.specs.internal.Parsing.{are_good};
 ghost use Rattle.xet_program.specs.internal.Report.{info_line};
@@ -25,8 +25,8 @@ use std::sync::Wait;
 use std::thread::Threads;
 use xet_clean::Cleaned;
 use xet_io::{Disk, SliceSource, Source};
-use xet_steps::Store;
-use xet_store::XetFileInfo;
+use xet_store::Store;
+use xet_store_disk::XetFileInfo;
 use xet_workers::clean_files;
 
 /// Stores the files of some lines in a session, and returns the report of files and ranges, or why it stops.

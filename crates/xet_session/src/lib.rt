@@ -24,6 +24,6 @@ pub use xet_clean::{
 pub use xet_hash_files::hash_files;
 pub use xet_locked_session::{LockedSession, Naming, Opened, Pass};
 pub use xet_single_file::SingleFileCleaner;
-pub use xet_steps::Store as Session;
-pub use xet_store::XetFileInfo;
+pub use xet_store::Store as Session;
+pub use xet_store_disk::XetFileInfo;
 pub use xet_workers::clean_files;

@@ -12,7 +12,7 @@ use xet_cut::{LimitSettings, Limits};
 use xet_hash::StoreError;
 use xet_io::{MemoryDisk, SliceSource};
 use xet_shard_format::Sha256;
-use xet_steps::{Alone, Asking, Store};
+use xet_store::{Alone, Asking, Store};
 use xet_workers::Behind;
 
 /// The SHA-256 of 1,000,000 bytes, each of which is 7: fifteen full blocks of 64 KiB, and a part of one.

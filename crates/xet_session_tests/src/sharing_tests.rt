@@ -10,7 +10,7 @@ use xet_clean::{FileCleaner, Sha256Generator, Sha256Policy, add_block};
 use xet_cut::{LimitSettings, Limits, gear_table, generated};
 use xet_hash::StoreError;
 use xet_io::MemoryDisk;
-use xet_steps::{Alone, Asking, Stepping, Store};
+use xet_store::{Alone, Asking, Stepping, Store};
 
 /// A store in the folder `store` of a new disk, with chunks from 64 to 1,024 bytes.
 fn open(alloc: Global) -> Result<Store<MemoryDisk>, StoreError> {

@@ -11,10 +11,10 @@ use Rattle.xet_clean.specs.declared.policy.Sha256Policy.{Sha256Policy}
 use Rattle.xet_hash.specs.declared.error.StoreError.{StoreError}
 use Rattle.xet_locked_session.specs.Passes.{IsPassOf}
 use Rattle.xet_locked_session.specs.Passing.{IsPassing, PassingState, passing_of}
-use Rattle.xet_steps.specs.Interface.{IsErrorSince}
-use Rattle.xet_steps.specs.Holders.{Follows, FollowsAsking, Holder}
-use Rattle.xet_steps.specs.Recorded.{RecordedState}
-use Rattle.xet_store.specs.declared.info.XetFileInfo.{XetFileInfo}
+use Rattle.xet_store.specs.Interface.{IsErrorSince}
+use Rattle.xet_store.specs.Holders.{Follows, FollowsAsking, Holder}
+use Rattle.xet_store.specs.Recorded.{RecordedState}
+use Rattle.xet_store_disk.specs.declared.info.XetFileInfo.{XetFileInfo}
 use Rattle.xet_single_file.specs.Single.{IsSingleError, SingleFileState, single_state}
 use Rattle.xet_single_file.specs.internal.Kept.{IsKept, holder_in}
 use Rattle.xet_single_file.proofs.Passes.{error_after, few_after, finished_after, pass_grows}

@@ -13,10 +13,10 @@ use Rattle.xet_history.specs.declared.entry.Entry.{Entry}
 use Rattle.xet_locked_session.specs.Passes.{IsPassOf}
 use Rattle.xet_locked_session.specs.Passing.{IsPassing, PassingState, passing_of}
 use Rattle.xet_locked_session.specs.theorems.Starts.{same_start}
-use Rattle.xet_steps.specs.Interface.{IsErrorSince}
-use Rattle.xet_steps.specs.Holders.{Follows, FollowsAsking, Holder}
-use Rattle.xet_store.specs.declared.info.XetFileInfo.{XetFileInfo}
-use Rattle.xet_steps.specs.Recorded.{RecordedState}
+use Rattle.xet_store.specs.Interface.{IsErrorSince}
+use Rattle.xet_store.specs.Holders.{Follows, FollowsAsking, Holder}
+use Rattle.xet_store_disk.specs.declared.info.XetFileInfo.{XetFileInfo}
+use Rattle.xet_store.specs.Recorded.{RecordedState}
 use Rattle.xet_single_file.specs.internal.Kept.{IsKept, holder_in}
 
 -- ---- the pass itself only grows

@@ -4,7 +4,7 @@ use Rattle.std.specs.Coded.{Coded, code_by, coded×, coded_ℕ, coded_bool, code
 use Rattle.xet_clean.specs.declared.policy.Sha256Policy.{Sha256Policy}
 use Rattle.xet_clean.specs.declared.policy.Sha256Policy.TheVariants.{Compute, Provided, Skip}
 use Rattle.xet_locked_session.specs.Coding.{holder_code}
-use Rattle.xet_steps.specs.Holders.{Holder}
+use Rattle.xet_store.specs.Holders.{Holder}
 use Rattle.xet_single_file.specs.Single.{SingleFileState}
 
 -- ---- where the SHA-256 comes from

@@ -5,8 +5,8 @@ use Rattle.xet_hash.specs.declared.error.StoreError.{StoreError}
 use Rattle.xet_hash.specs.declared.error.StoreError.TheVariants.{TooLarge}
 use Rattle.xet_hash.specs.declared.error.What.TheVariants.{Source}
 use Rattle.xet_locked_session.specs.Passing.{passing_of}
-use Rattle.xet_steps.specs.Interface.{IsErrorSince}
-use Rattle.xet_steps.specs.Holders.{Holder}
+use Rattle.xet_store.specs.Interface.{IsErrorSince}
+use Rattle.xet_store.specs.Holders.{Holder}
 
 -- What contracts see of it: the pass when the file began, and the pass now; the number of the source; where the SHA-256 comes
 -- from; the bytes so far; whether each call returned Ok.

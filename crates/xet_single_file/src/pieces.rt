@@ -7,13 +7,13 @@ ghost use Rattle.xet_clean.specs.Cleaner.{IsCleaning, IsCleaningSome};
 ghost use Rattle.xet_clean.specs.Errors.{IsCleanerError};
 ghost use Rattle.xet_clean.specs.Planning.{IsFew};
 ghost use Rattle.xet_clean.specs.Policies.{HasBytesBy};
-ghost use Rattle.xet_steps.specs.Interface.{IsErrorSince};
-ghost use Rattle.xet_steps.specs.Holders.{FollowsAsking};
+ghost use Rattle.xet_store.specs.Interface.{IsErrorSince};
+ghost use Rattle.xet_store.specs.Holders.{FollowsAsking};
 
 use bytes::Bytes;
 use xet_clean::{FileCleaner, Sha256Generator, Sha256Policy};
 use xet_hash::{StoreError, What};
-use xet_steps::Stepping;
+use xet_store::Stepping;
 
 /// Adds bytes to a file and to its SHA-256. They are those of `shared` if there is such a buffer, and the chunks share it then. If
 /// the file would be longer than the limits allow, nothing is done.

@@ -6,8 +6,8 @@ ghost use Rattle.xet_clean.specs.Planning.{IsFew, IsFinished};
 ghost use Rattle.xet_clean.specs.Policies.{sha256_by};
 ghost use Rattle.xet_locked_session.specs.Passing.{passing_of};
 ghost use Rattle.xet_single_file.specs.Single.{IsSingleError};
-ghost use Rattle.xet_steps.specs.Interface.{IsErrorSince};
-ghost use Rattle.xet_steps.specs.Holders.{Follows};
+ghost use Rattle.xet_store.specs.Interface.{IsErrorSince};
+ghost use Rattle.xet_store.specs.Holders.{Follows};
 
 use crate::ghost_bytes::GhostBytes;
 use crate::pieces::add_all;
@@ -19,7 +19,7 @@ use xet_clean::{FileCleaner, FinishedFile, Sha256Generator, Sha256Policy};
 use xet_hash::{StoreError, What};
 use xet_io::Disk;
 use xet_locked_session::{LockedSession, Naming, Pass, Passing};
-use xet_steps::Asking;
+use xet_store::Asking;
 
 /// One file that is cleaned as its bytes come, over a pass of a session. Each step is made in one hold of the session's lock,
 /// and waits for it. No file is recorded: whoever has what `finish` returns registers the xorb that has its last chunks, and then

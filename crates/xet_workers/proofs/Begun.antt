@@ -13,10 +13,10 @@ use Rattle.xet_hash.specs.declared.error.StoreError.TheVariants.{OutOfMemory}
 use Rattle.xet_locked_session.specs.Passes.{IsPassOf}
 use Rattle.xet_locked_session.specs.Passing.{IsPassing, PassingState, passing_of}
 use Rattle.xet_locked_session.specs.theorems.Starts.{same_start}
-use Rattle.xet_steps.specs.Holders.{Follows, Holder}
-use Rattle.xet_steps.specs.theorems.Following.{follows_nothing}
-use Rattle.xet_steps.specs.Recorded.{RecordedState}
-use Rattle.xet_store.specs.declared.info.XetFileInfo.{XetFileInfo}
+use Rattle.xet_store.specs.Holders.{Follows, Holder}
+use Rattle.xet_store.specs.theorems.Following.{follows_nothing}
+use Rattle.xet_store.specs.Recorded.{RecordedState}
+use Rattle.xet_store_disk.specs.declared.info.XetFileInfo.{XetFileInfo}
 use Rattle.xet_workers.specs.Workers.{HasPassed}
 
 -- what contracts see of a pass that makes steps

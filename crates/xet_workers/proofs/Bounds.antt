@@ -23,10 +23,10 @@ use Rattle.xet_hash.specs.declared.error.StoreError.{StoreError}
 use Rattle.xet_history.specs.declared.entry.Entry.{Entry}
 use Rattle.xet_locked_session.specs.Passing.{passing_of}
 use Rattle.xet_shard_format.specs.declared.record.MDBFileInfo.{MDBFileInfo}
-use Rattle.xet_steps.specs.Holders.{Holder, calls_in}
-use Rattle.xet_steps.specs.Recorded.{RecordedState}
-use Rattle.xet_store.specs.Separate.{Among}
-use Rattle.xet_store.specs.theorems.Rows.{from_among, to_among}
+use Rattle.xet_store.specs.Holders.{Holder, calls_in}
+use Rattle.xet_store.specs.Recorded.{RecordedState}
+use Rattle.xet_store_disk.specs.Separate.{Among}
+use Rattle.xet_store_disk.specs.theorems.Rows.{from_among, to_among}
 use Rattle.xet_workers.specs.Cleaning.{IsReadInTurn, Turn, taken_files, whole_files}
 use Rattle.xet_workers.specs.Workers.{EndsAs, HasStopped, HasWorked, HaveEnded, SeatState, Worked, worked}
 use Rattle.xet_workers.proofs.Numbered.{passed_limits, passed_own}

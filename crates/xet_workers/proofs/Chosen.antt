@@ -24,7 +24,7 @@ use Rattle.xet_file_plan.specs.Moves.{counts_of}
 use Rattle.xet_file_plan.specs.theorems.Placed.{total_placed}
 use Rattle.xet_history.specs.declared.entry.Entry.{Entry}
 use Rattle.xet_shard_format.specs.declared.record.MDBFileInfo.{MDBFileInfo}
-use Rattle.xet_steps.specs.Holders.{Follows, Holder, calls_in, calls_of}
+use Rattle.xet_store.specs.Holders.{Follows, Holder, calls_in, calls_of}
 use Rattle.xet_workers.specs.Cleaning.{AreChosenBy, HasChoicesBy}
 use Rattle.xet_workers.proofs.Naming.{asked_among}
 use Rattle.xet_workers.proofs.Parting.{numbers_of}

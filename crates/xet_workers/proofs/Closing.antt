@@ -7,9 +7,9 @@ use Rattle.xet_clean.specs.Merging.{IsUnmerged, MayMergeAll, MergesAll, Part}
 use Rattle.xet_clean.specs.declared.info.Cleaned.{Cleaned}
 use Rattle.xet_clean.specs.declared.working.Working.{Working}
 use Rattle.xet_hash.specs.declared.error.StoreError.{StoreError}
-use Rattle.xet_steps.specs.Alone.{AloneState, IsAlone, alone_of}
-use Rattle.xet_steps.specs.Holders.{Follows, Holder}
-use Rattle.xet_steps.specs.Recorded.{RecordedState}
+use Rattle.xet_store.specs.Alone.{AloneState, IsAlone, alone_of}
+use Rattle.xet_store.specs.Holders.{Follows, Holder}
+use Rattle.xet_store.specs.Recorded.{RecordedState}
 use Rattle.xet_workers.specs.internal.Ending.{MergedAlone, UnmergedAlone}
 
 -- ---- results

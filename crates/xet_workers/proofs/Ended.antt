@@ -32,16 +32,16 @@ use Rattle.xet_locked_session.specs.Session.{IsSince}
 use Rattle.xet_shard_format.specs.Records.{file_record_hash}
 use Rattle.xet_shard_format.specs.declared.record.MDBFileInfo.{MDBFileInfo}
 use Rattle.xet_shared_history.specs.Owned.{HasEachOnce}
-use Rattle.xet_steps.specs.Alone.{IsAlone, alone_of}
-use Rattle.xet_steps.specs.Holders.{Holder, calls_in, numbered}
-use Rattle.xet_steps.specs.theorems.Following.{calls_in-append, length-numbered, numbered-append}
-use Rattle.xet_steps.specs.Recorded.{RecordedState, core_of}
-use Rattle.xet_steps.specs.Steps.{Steps}
-use Rattle.xet_store.specs.Cleaning.{Adds, EachTold, HasFile, Keeps, chunkings, info_of}
-use Rattle.xet_store.specs.Separate.{Separate}
-use Rattle.xet_store.specs.Store.{Sound, plan_of}
-use Rattle.xet_store.specs.declared.info.XetFileInfo.{XetFileInfo}
-use Rattle.xet_store.specs.theorems.Files.{files_all, told_more}
+use Rattle.xet_store.specs.Alone.{IsAlone, alone_of}
+use Rattle.xet_store.specs.Holders.{Holder, calls_in, numbered}
+use Rattle.xet_store.specs.theorems.Following.{calls_in-append, length-numbered, numbered-append}
+use Rattle.xet_store.specs.Recorded.{RecordedState, core_of}
+use Rattle.xet_store.specs.Steps.{Steps}
+use Rattle.xet_store_disk.specs.Cleaning.{Adds, EachTold, HasFile, Keeps, chunkings, info_of}
+use Rattle.xet_store_disk.specs.Separate.{Separate}
+use Rattle.xet_store_disk.specs.Store.{Sound, plan_of}
+use Rattle.xet_store_disk.specs.declared.info.XetFileInfo.{XetFileInfo}
+use Rattle.xet_store_disk.specs.theorems.Files.{files_all, told_more}
 use Rattle.xet_workers.specs.Cleaning.{AreChosenBy, GrowsBy, IsCleanedBy, calls_by, made_by}
 use Rattle.xet_workers.specs.Workers.{Worked}
 use Rattle.xet_workers.specs.internal.Ending.{HasMerged}

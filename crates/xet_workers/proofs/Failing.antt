@@ -8,9 +8,9 @@ use Rattle.xet_clean.specs.declared.working.Working.{Working}
 use Rattle.xet_hash.specs.declared.error.StoreError.{StoreError}
 use Rattle.xet_history.specs.declared.entry.Entry.{Entry}
 use Rattle.xet_locked_session.specs.Passing.{passing_of}
-use Rattle.xet_steps.specs.Holders.{Holder, seen}
-use Rattle.xet_steps.specs.Recorded.{RecordedState}
-use Rattle.xet_store.specs.Separate.{Among}
+use Rattle.xet_store.specs.Holders.{Holder, seen}
+use Rattle.xet_store.specs.Recorded.{RecordedState}
+use Rattle.xet_store_disk.specs.Separate.{Among}
 use Rattle.xet_workers.specs.Workers.{EndsAs, HasEnded, HasPassed, HaveEnded, SeatState, later_source}
 use Rattle.xet_workers.proofs.Bounds.{all_bounded, ended_few, taken_longer}
 

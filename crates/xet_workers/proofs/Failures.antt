@@ -15,8 +15,8 @@ use Rattle.xet_shard_format.specs.RecordSizes.{file_record_size, xorb_record_siz
 use Rattle.xet_shard_format.specs.Records.{file_record_hash}
 use Rattle.xet_shard_format.specs.declared.record.FileDataSequenceEntry.{FileDataSequenceEntry as Segment}
 use Rattle.xet_shard_format.specs.declared.record.MDBFileInfo.{MDBFileInfo}
-use Rattle.xet_steps.specs.Alone.{IsFault, Step, cut_of, kind_of}
-use Rattle.xet_steps.specs.Steps.{fault_entries}
+use Rattle.xet_store.specs.Alone.{IsFault, Step, cut_of, kind_of}
+use Rattle.xet_store.specs.Steps.{fault_entries}
 use Rattle.xet_xorb.specs.Raw.{xorb_record}
 use Rattle.xet_locked_session.specs.Session.{fault_count}
 use Rattle.xet_locked_session.specs.Shared.{StepOf, StepsBy, StepsByUntil}

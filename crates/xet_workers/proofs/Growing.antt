@@ -14,10 +14,10 @@ use Rattle.xet_io.specs.Faults.{Rose}
 use Rattle.xet_locked_session.specs.Session.{HasRisenBy, IsSince, fault_count}
 use Rattle.xet_workers.proofs.Failures.{counted_fault, fault_count-append, fault_counted, steps_calm, until_failed}
 use Rattle.xet_locked_session.specs.Shared.{HaveEnded, HaveMade, StepOf, StepsBy, StepsByUntil}
-use Rattle.xet_steps.specs.Alone.{IsAlone, IsFault, StepsTo, StepsUntil, cut_of, kind_of}
-use Rattle.xet_steps.specs.Recorded.{RecordedState, core_of}
-use Rattle.xet_steps.specs.Steps.{Steps, fault_entries}
-use Rattle.xet_steps.specs.theorems.Joining.{steps_both}
+use Rattle.xet_store.specs.Alone.{IsAlone, IsFault, StepsTo, StepsUntil, cut_of, kind_of}
+use Rattle.xet_store.specs.Recorded.{RecordedState, core_of}
+use Rattle.xet_store.specs.Steps.{Steps, fault_entries}
+use Rattle.xet_store.specs.theorems.Joining.{steps_both}
 use Rattle.xet_workers.specs.Cleaning.{GrowsBy, MadeBy}
 use Rattle.xet_workers.specs.internal.Ending.{IsLeft}
 

@@ -37,16 +37,16 @@ use Rattle.xet_locked_session.specs.Passes.{IsSeen, own_numbers}
 use Rattle.xet_locked_session.specs.Session.{IsSince}
 use Rattle.xet_shard_format.specs.declared.record.MDBFileInfo.{MDBFileInfo}
 use Rattle.xet_shared_history.specs.Owned.{HasEachOnce}
-use Rattle.xet_steps.specs.Alone.{alone_of}
-use Rattle.xet_steps.specs.Holders.{Follows, Holder, calls_in, numbered, seen}
-use Rattle.xet_steps.specs.Recorded.{RecordedState, core_of}
-use Rattle.xet_steps.specs.Steps.{Steps}
-use Rattle.xet_steps.specs.theorems.Following.{calls_in-append, length-numbered}
-use Rattle.xet_store.specs.Cleaning.{Adds, chunkings, info_of}
-use Rattle.xet_store.specs.Separate.{Among}
-use Rattle.xet_store.specs.Store.{Sound}
-use Rattle.xet_store.specs.theorems.Rows.{from_among, to_among}
-use Rattle.xet_store.specs.theorems.Staying.{all_among}
+use Rattle.xet_store.specs.Alone.{alone_of}
+use Rattle.xet_store.specs.Holders.{Follows, Holder, calls_in, numbered, seen}
+use Rattle.xet_store.specs.Recorded.{RecordedState, core_of}
+use Rattle.xet_store.specs.Steps.{Steps}
+use Rattle.xet_store.specs.theorems.Following.{calls_in-append, length-numbered}
+use Rattle.xet_store_disk.specs.Cleaning.{Adds, chunkings, info_of}
+use Rattle.xet_store_disk.specs.Separate.{Among}
+use Rattle.xet_store_disk.specs.Store.{Sound}
+use Rattle.xet_store_disk.specs.theorems.Rows.{from_among, to_among}
+use Rattle.xet_store_disk.specs.theorems.Staying.{all_among}
 use Rattle.xet_workers.specs.Cleaning.{IsBoundedBy, IsReadInTurn, Turn, taken_files, whole_files}
 use Rattle.xet_workers.specs.Workers.{HaveEnded, SeatState, Worked}
 use Rattle.xet_workers.specs.internal.Ending.{HasNotMerged}

@@ -11,7 +11,7 @@ use Rattle.xet_clean.specs.Merging.{AreHeld}
 use Rattle.xet_history.specs.History.{pass_of}
 use Rattle.xet_history.specs.declared.entry.Entry.{Entry}
 use Rattle.xet_history.specs.declared.entry.Entry.TheVariants.{Query, Register, Complete, Flush, Fault}
-use Rattle.xet_steps.specs.Holders.{Holder, call_at, calls_in}
+use Rattle.xet_store.specs.Holders.{Holder, call_at, calls_in}
 use Rattle.xet_workers.specs.Cleaning.{made_by}
 use Rattle.xet_workers.proofs.Parting.{HasPass, Parted, made_apart, made_here, of_passes}
 

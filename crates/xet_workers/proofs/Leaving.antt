@@ -2,7 +2,7 @@
 use Rattle.std.proofs.Common.{◌≡◌, ◌∙◌, ◌⊎◌, inl, inr, ℕ, ◌+◌, ◌≤◌, List, [], ◌∷◌, ◌++◌, append_assoc, append-nil, length, length-append, map, refl, sym, ap, subst, arith, Option, None, Some}
 use Rattle.std.proofs.lemmas.List.{map-append}
 use Rattle.std.specs.Prelude.{Err, IfErr, IfOk, IsErrAnd, IsOkAnd, Ok, Result}
-use Rattle.xet_store.specs.Separate.{Among}
+use Rattle.xet_store_disk.specs.Separate.{Among}
 
 -- ---- passes
 

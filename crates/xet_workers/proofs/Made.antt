@@ -16,9 +16,9 @@ use Rattle.xet_history.specs.theorems.Joining.{after_all-append}
 use Rattle.xet_locked_session.specs.Passes.{IsPassOf}
 use Rattle.xet_locked_session.specs.Session.{IsSince}
 use Rattle.xet_locked_session.specs.Passing.{IsPassing, passing_of}
-use Rattle.xet_steps.specs.Alone.{alone_of}
-use Rattle.xet_steps.specs.Holders.{Holder, core_at, seen}
-use Rattle.xet_steps.specs.Recorded.{RecordedState, core_of}
+use Rattle.xet_store.specs.Alone.{alone_of}
+use Rattle.xet_store.specs.Holders.{Holder, core_at, seen}
+use Rattle.xet_store.specs.Recorded.{RecordedState, core_of}
 use Rattle.xet_workers.specs.Workers.{HasPassed, HasWorked, Worked, worked}
 use Rattle.xet_workers.specs.internal.Parts.{ArePartsBy, IsPartBy, all_worked}
 

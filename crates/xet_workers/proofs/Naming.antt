@@ -11,7 +11,7 @@ use Rattle.xet_history.specs.declared.entry.Entry.{Entry}
 use Rattle.xet_history.specs.declared.entry.Entry.TheVariants.{Query, Register, Complete, Flush, Fault}
 use Rattle.xet_locked_session.specs.Passes.{own_numbers}
 use Rattle.xet_shared_history.specs.Owned.{HasEachOnce, count_of, one_within}
-use Rattle.xet_steps.specs.Holders.{Holder, call_at, calls_in}
+use Rattle.xet_store.specs.Holders.{Holder, call_at, calls_in}
 use Rattle.xet_workers.proofs.Parting.{Rise, count_here, count_of-append, count_there, none_below, numbers_of, rise_next}
 
 -- ---- the number of a query is that of its entry

@@ -10,9 +10,9 @@ use Rattle.xet_history.specs.declared.entry.Entry.{Entry}
 use Rattle.xet_locked_session.specs.Passes.{IsSeen, NumbersDiffer, own_numbers}
 use Rattle.xet_locked_session.specs.Passing.{passing_of}
 use Rattle.xet_shared_history.specs.Owned.{HasEachOnce}
-use Rattle.xet_steps.specs.Holders.{Follows, Holder, numbered, seen}
-use Rattle.xet_steps.specs.theorems.Following.{length-numbered}
-use Rattle.xet_steps.specs.Recorded.{RecordedState}
+use Rattle.xet_store.specs.Holders.{Follows, Holder, numbered, seen}
+use Rattle.xet_store.specs.theorems.Following.{length-numbered}
+use Rattle.xet_store.specs.Recorded.{RecordedState}
 use Rattle.xet_workers.specs.Workers.{EndsAs, HasPassed, HaveEnded, SeatState}
 use Rattle.xet_workers.proofs.Parting.{IsFrom, parted}
 use Rattle.xet_workers.proofs.Sums.{length_parted}

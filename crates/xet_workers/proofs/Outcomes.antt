@@ -24,14 +24,14 @@ use Rattle.xet_locked_session.specs.Session.{IsSince}
 use Rattle.xet_locked_session.specs.Shared.{StepsBy}
 use Rattle.xet_shard_format.specs.declared.record.MDBFileInfo.{MDBFileInfo}
 use Rattle.xet_shared_history.specs.Owned.{HasEachOnce, count_of, one_within}
-use Rattle.xet_steps.specs.Holders.{Holder}
-use Rattle.xet_steps.specs.Recorded.{IsRecorded, RecordedState}
-use Rattle.xet_steps.specs.theorems.Changing.{changes_nothing}
-use Rattle.xet_steps.specs.theorems.Joining.{steps_nothing}
-use Rattle.xet_store.specs.Cleaning.{AreTaken, Later}
-use Rattle.xet_store.specs.Separate.{Among}
-use Rattle.xet_store.specs.Store.{Sound}
-use Rattle.xet_store.specs.declared.info.XetFileInfo.{XetFileInfo}
+use Rattle.xet_store.specs.Holders.{Holder}
+use Rattle.xet_store.specs.Recorded.{IsRecorded, RecordedState}
+use Rattle.xet_store.specs.theorems.Changing.{changes_nothing}
+use Rattle.xet_store.specs.theorems.Joining.{steps_nothing}
+use Rattle.xet_store_disk.specs.Cleaning.{AreTaken, Later}
+use Rattle.xet_store_disk.specs.Separate.{Among}
+use Rattle.xet_store_disk.specs.Store.{Sound}
+use Rattle.xet_store_disk.specs.declared.info.XetFileInfo.{XetFileInfo}
 use Rattle.xet_workers.specs.Cleaning.{AreChosenBy, IsBoundedBy, IsCleanedBy, calls_by}
 use Rattle.xet_workers.specs.Workers.{HaveEnded, SeatState, Worked}
 use Rattle.xet_workers.specs.internal.Ending.{HasMerged, IsLeft, IsLeftWith, IsUnended, Promises}

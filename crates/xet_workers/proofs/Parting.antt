@@ -16,8 +16,8 @@ use Rattle.xet_history.specs.declared.entry.Entry.{Entry}
 use Rattle.xet_locked_session.specs.Passes.{IsSeen, IsThere, NumbersDiffer, own_numbers}
 use Rattle.xet_shared_history.specs.Owned.{HasEachOnce, count_of, one_within}
 use Rattle.xet_shared_history.specs.theorems.Prefixes.{prefix_get}
-use Rattle.xet_steps.specs.Holders.{Holder, numbered, seen}
-use Rattle.xet_steps.specs.theorems.Following.{numbered-append}
+use Rattle.xet_store.specs.Holders.{Holder, numbered, seen}
+use Rattle.xet_store.specs.theorems.Following.{numbered-append}
 use Rattle.xet_workers.specs.Cleaning.{made_by}
 
 -- ---- properties of each element

@@ -11,9 +11,9 @@ use Rattle.xet_hash.specs.declared.error.StoreError.TheVariants.{Io, TooLarge}
 use Rattle.xet_hash.specs.declared.error.What.{What}
 use Rattle.xet_hash.specs.declared.error.What.TheVariants as what
 use Rattle.xet_locked_session.specs.Passing.{passing_of}
-use Rattle.xet_steps.specs.Holders.{Holder}
-use Rattle.xet_steps.specs.Recorded.{RecordedState}
-use Rattle.xet_store.specs.Cleaning.{AreTaken, IsLongAt, Later, RoseAt}
+use Rattle.xet_store.specs.Holders.{Holder}
+use Rattle.xet_store.specs.Recorded.{RecordedState}
+use Rattle.xet_store_disk.specs.Cleaning.{AreTaken, IsLongAt, Later, RoseAt}
 use Rattle.xet_workers.specs.Workers.{EndsAs, HasEnded, HasPassed, HasStopped, HasWorked, NamesWithin, Worked, later_source, worked}
 use Rattle.xet_workers.proofs.Begun.{IsRefused, MayHavePassed}
 

@@ -17,9 +17,9 @@ use Rattle.xet_shard_format.specs.RecordSizes.{file_record_size, xorb_record_siz
 use Rattle.xet_shard_format.specs.Records.{file_record_hash}
 use Rattle.xet_shard_format.specs.declared.record.FileDataSequenceEntry.{FileDataSequenceEntry as Segment}
 use Rattle.xet_shard_format.specs.declared.record.MDBFileInfo.{MDBFileInfo}
-use Rattle.xet_steps.specs.Alone.{IsAlone, Step, StepsTo, StepsUntil, cut_of, kind_of}
-use Rattle.xet_steps.specs.Recorded.{RecordedState, core_of}
-use Rattle.xet_steps.specs.Steps.{fault_entries}
+use Rattle.xet_store.specs.Alone.{IsAlone, Step, StepsTo, StepsUntil, cut_of, kind_of}
+use Rattle.xet_store.specs.Recorded.{RecordedState, core_of}
+use Rattle.xet_store.specs.Steps.{fault_entries}
 use Rattle.xet_xorb.specs.Raw.{xorb_record}
 
 module _ (pass : ℕ) where

@@ -3,9 +3,9 @@ use Rattle.std.proofs.Common.{◌≡◌, ℕ, ◌≤◌, Bool, List, Ok, length,
 use Rattle.xet_clean.specs.Merging.{Part, files_of}
 use Rattle.xet_clean.specs.Sources.{AreDone}
 use Rattle.xet_clean.specs.declared.info.Cleaned.{Cleaned}
-use Rattle.xet_steps.specs.Recorded.{RecordedState}
-use Rattle.xet_store.specs.Cleaning.{AreTaken, Later}
-use Rattle.xet_store.specs.Store.{Sound}
+use Rattle.xet_store.specs.Recorded.{RecordedState}
+use Rattle.xet_store_disk.specs.Cleaning.{AreTaken, Later}
+use Rattle.xet_store_disk.specs.Store.{Sound}
 use Rattle.xet_workers.specs.Workers.{Worked}
 use Rattle.xet_workers.specs.internal.Ending.{HasMerged, Promises}
 use Rattle.xet_workers.specs.internal.Parts.{ArePartsBy}

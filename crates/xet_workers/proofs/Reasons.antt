@@ -16,12 +16,12 @@ use Rattle.xet_history.specs.theorems.Staying.{completed_cases, registered_cases
 use Rattle.xet_locked_session.specs.Session.{IsSince, fault_count}
 use Rattle.xet_locked_session.specs.Passing.{passing_of}
 use Rattle.xet_shard_format.specs.Records.{file_record_hash, xorb_record_hash}
-use Rattle.xet_steps.specs.Interface.{HasFault}
-use Rattle.xet_steps.specs.Holders.{Holder, IsOwn, core_at, seen}
-use Rattle.xet_steps.specs.Recorded.{IsRecorded, RecordedState, core_of}
-use Rattle.xet_store.specs.Cleaning.{IsLongAt, RoseAt}
-use Rattle.xet_store.specs.theorems.Rows.{to_among}
-use Rattle.xet_store.specs.theorems.Staying.{all_among}
+use Rattle.xet_store.specs.Interface.{HasFault}
+use Rattle.xet_store.specs.Holders.{Holder, IsOwn, core_at, seen}
+use Rattle.xet_store.specs.Recorded.{IsRecorded, RecordedState, core_of}
+use Rattle.xet_store_disk.specs.Cleaning.{IsLongAt, RoseAt}
+use Rattle.xet_store_disk.specs.theorems.Rows.{to_among}
+use Rattle.xet_store_disk.specs.theorems.Staying.{all_among}
 use Rattle.xet_xorb.specs.Raw.{xorb_record}
 use Rattle.xet_workers.specs.Workers.{HasPassed}
 use Rattle.xet_workers.proofs.Failures.{fault_after}

@@ -29,14 +29,14 @@ use Rattle.xet_history.specs.declared.entry.Entry.TheVariants.{Fault}
 use Rattle.xet_io.specs.Faults.{Rose}
 use Rattle.xet_locked_session.specs.Session.{fault_count}
 use Rattle.xet_locked_session.specs.Passing.{passing_of}
-use Rattle.xet_steps.specs.Alone.{IsFault, alone_of}
-use Rattle.xet_steps.specs.Interface.{HasFault, IsErrorSince}
-use Rattle.xet_steps.specs.Holders.{Holder, core_at, numbered, seen}
-use Rattle.xet_steps.specs.Recorded.{IsRecorded, RecordedState, core_of}
-use Rattle.xet_store.specs.Cleaning.{AreTaken, IsLongAt, Keeps, Later, RoseAt, chunkings}
-use Rattle.xet_store.specs.Separate.{Among}
-use Rattle.xet_store.specs.Store.{Sound}
-use Rattle.xet_store.specs.theorems.Rows.{from_among, to_among}
+use Rattle.xet_store.specs.Alone.{IsFault, alone_of}
+use Rattle.xet_store.specs.Interface.{HasFault, IsErrorSince}
+use Rattle.xet_store.specs.Holders.{Holder, core_at, numbered, seen}
+use Rattle.xet_store.specs.Recorded.{IsRecorded, RecordedState, core_of}
+use Rattle.xet_store_disk.specs.Cleaning.{AreTaken, IsLongAt, Keeps, Later, RoseAt, chunkings}
+use Rattle.xet_store_disk.specs.Separate.{Among}
+use Rattle.xet_store_disk.specs.Store.{Sound}
+use Rattle.xet_store_disk.specs.theorems.Rows.{from_among, to_among}
 use Rattle.xet_workers.specs.Cleaning.{GrowsBy, IsBoundedBy}
 use Rattle.xet_workers.specs.Workers.{Worked, later_source}
 use Rattle.xet_workers.specs.internal.Ending.{HasNotMerged, IsLeft, IsUnended, Promises}

@@ -28,16 +28,16 @@ use Rattle.xet_history.specs.theorems.Staying.{listed_after_all, shards_after_al
 use Rattle.xet_shard_format.specs.Records.{file_record_hash}
 use Rattle.xet_shard_format.specs.declared.record.FileDataSequenceEntry.{FileDataSequenceEntry as Segment}
 use Rattle.xet_shard_format.specs.declared.record.MDBFileInfo.{MDBFileInfo}
-use Rattle.xet_steps.specs.Recorded.{RecordedState, core_of}
-use Rattle.xet_store.specs.Cleaning.{EachTold, chunkings}
-use Rattle.xet_store.specs.Separate.{Among, MetChunk}
-use Rattle.xet_store.specs.Store.{Sound}
-use Rattle.xet_store.specs.theorems.Rows.{to_among}
-use Rattle.xet_store.specs.theorems.Staying.{all_among}
-use Rattle.xet_steps.specs.Interface.{IsErrorSince, Stands}
-use Rattle.xet_steps.specs.Holders.{Follows, Holder, core_at, core_found, lengths_in}
-use Rattle.xet_steps.specs.Stepping.{SawOther}
-use Rattle.xet_steps.specs.theorems.Following.{follows_then}
+use Rattle.xet_store.specs.Recorded.{RecordedState, core_of}
+use Rattle.xet_store_disk.specs.Cleaning.{EachTold, chunkings}
+use Rattle.xet_store_disk.specs.Separate.{Among, MetChunk}
+use Rattle.xet_store_disk.specs.Store.{Sound}
+use Rattle.xet_store_disk.specs.theorems.Rows.{to_among}
+use Rattle.xet_store_disk.specs.theorems.Staying.{all_among}
+use Rattle.xet_store.specs.Interface.{IsErrorSince, Stands}
+use Rattle.xet_store.specs.Holders.{Follows, Holder, core_at, core_found, lengths_in}
+use Rattle.xet_store.specs.Stepping.{SawOther}
+use Rattle.xet_store.specs.theorems.Following.{follows_then}
 use Rattle.xet_xorb_chunk.specs.Chunks.{chunk_leaf}
 use Rattle.xet_clean.specs.Cleaning.{AreApartUnder, NoneEnds}
 use Rattle.xet_clean.specs.Closing.{AnyCalls, IsClosingError, IsUnclosed, RegistersChunks, filled_files}

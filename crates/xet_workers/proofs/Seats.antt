@@ -9,8 +9,8 @@ use Rattle.xet_clean.specs.Merging.{files_of}
 use Rattle.xet_clean.specs.declared.working.Working.{Working}
 use Rattle.xet_hash.specs.declared.error.StoreError.{StoreError}
 use Rattle.xet_locked_session.specs.Passes.{NumbersDiffer, holder_of, new_passes}
-use Rattle.xet_steps.specs.Holders.{Holder}
-use Rattle.xet_steps.specs.Recorded.{RecordedState}
+use Rattle.xet_store.specs.Holders.{Holder}
+use Rattle.xet_store.specs.Recorded.{RecordedState}
 use Rattle.xet_workers.specs.Workers.{AreReady, EndsAs, HasWorked, HaveEnded, SeatState, Worked, worked}
 use Rattle.xet_workers.specs.internal.Parts.{all_worked}
 use Rattle.xet_workers.proofs.Numbered.{all_passed, passed_differ}

@@ -14,8 +14,8 @@ use Rattle.xet_history.specs.History.{pass_of}
 use Rattle.xet_history.specs.declared.entry.Entry.{Entry}
 use Rattle.xet_locked_session.specs.Passes.{IsSeen, own_numbers}
 use Rattle.xet_shared_history.specs.Owned.{HasEachOnce}
-use Rattle.xet_steps.specs.Holders.{Holder, call_at, calls_in, numbered, seen}
-use Rattle.xet_steps.specs.Recorded.{RecordedState}
+use Rattle.xet_store.specs.Holders.{Holder, call_at, calls_in, numbered, seen}
+use Rattle.xet_store.specs.Recorded.{RecordedState}
 use Rattle.xet_workers.specs.Cleaning.{made_by}
 use Rattle.xet_workers.proofs.Numbered.{HavePassed, passed_differ, passed_from, passed_number}
 use Rattle.xet_workers.proofs.Parting.{HasPass, Parted, all_with, made_apart, made_here, of_passes, parted}

@@ -10,7 +10,7 @@ use Rattle.xet_clean.specs.Closing.{recorded_in}
 use Rattle.xet_history.specs.declared.entry.Entry.{Entry}
 use Rattle.xet_history.specs.declared.entry.Entry.TheVariants.{Query, Register, Complete, Flush, Fault}
 use Rattle.xet_shard_format.specs.declared.record.MDBFileInfo.{MDBFileInfo}
-use Rattle.xet_steps.specs.Holders.{Holder, call_at, calls_in, numbered}
+use Rattle.xet_store.specs.Holders.{Holder, call_at, calls_in, numbered}
 use Rattle.xet_workers.specs.Cleaning.{made_by}
 use Rattle.xet_workers.proofs.Parting.{Parted, flat_map_parted, sum_by_parted}
 

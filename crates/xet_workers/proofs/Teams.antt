@@ -2,8 +2,8 @@
 use Rattle.std.proofs.Common.{◌≡◌, ◌∙◌, ℕ, suc, ◌+◌, Bool, List, [], ◌∷◌, ◌++◌, length, map, append-nil, append_assoc, length-append, refl, sym, ap, subst, arith}
 use Rattle.std.proofs.lemmas.List.{length-map, map-append}
 use Rattle.std.specs.Prelude.{slice_index_or, slice_set}
-use Rattle.xet_steps.specs.Recorded.{RecordedState}
-use Rattle.xet_store.specs.Cleaning.{AreTaken, Later}
+use Rattle.xet_store.specs.Recorded.{RecordedState}
+use Rattle.xet_store_disk.specs.Cleaning.{AreTaken, Later}
 use Rattle.xet_workers.specs.Workers.{AreReady, HasEnded, HaveEnded, IsReady, SeatState}
 
 module _ {S : Type 0} (tells : S → Bool) (left : S → List ℕ) (faults : S → ℕ) where

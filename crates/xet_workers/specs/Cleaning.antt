@@ -21,14 +21,14 @@ use Rattle.xet_history.specs.declared.entry.Entry.{Entry}
 use Rattle.xet_io.specs.Faults.{Rose}
 use Rattle.xet_locked_session.specs.Shared.{StepsBy, StepsByUntil}
 use Rattle.xet_shard_format.specs.declared.record.MDBFileInfo.{MDBFileInfo}
-use Rattle.xet_steps.specs.Alone.{IsFault}
-use Rattle.xet_steps.specs.Holders.{calls_in, numbered}
-use Rattle.xet_steps.specs.Recorded.{RecordedState, core_of}
-use Rattle.xet_steps.specs.Steps.{Steps}
-use Rattle.xet_store.specs.Cleaning.{Adds, EachTold, HasFile, chunkings, info_of}
-use Rattle.xet_store.specs.Separate.{Separate}
-use Rattle.xet_store.specs.Store.{plan_of}
-use Rattle.xet_store.specs.declared.info.XetFileInfo.{XetFileInfo}
+use Rattle.xet_store.specs.Alone.{IsFault}
+use Rattle.xet_store.specs.Holders.{calls_in, numbered}
+use Rattle.xet_store.specs.Recorded.{RecordedState, core_of}
+use Rattle.xet_store.specs.Steps.{Steps}
+use Rattle.xet_store_disk.specs.Cleaning.{Adds, EachTold, HasFile, chunkings, info_of}
+use Rattle.xet_store_disk.specs.Separate.{Separate}
+use Rattle.xet_store_disk.specs.Store.{plan_of}
+use Rattle.xet_store_disk.specs.declared.info.XetFileInfo.{XetFileInfo}
 
 -- ---- the entries of one pass
 

@@ -12,9 +12,9 @@ use Rattle.xet_hash.specs.declared.error.StoreError.TheVariants.{Io, TooLarge}
 use Rattle.xet_hash.specs.declared.error.What.TheVariants as what
 use Rattle.xet_locked_session.specs.Passes.{IsPassOf}
 use Rattle.xet_locked_session.specs.Passing.{IsPassing, passing_of}
-use Rattle.xet_steps.specs.Holders.{Holder}
-use Rattle.xet_steps.specs.Recorded.{RecordedState}
-use Rattle.xet_store.specs.declared.info.XetFileInfo.{XetFileInfo}
+use Rattle.xet_store.specs.Holders.{Holder}
+use Rattle.xet_store.specs.Recorded.{RecordedState}
+use Rattle.xet_store_disk.specs.declared.info.XetFileInfo.{XetFileInfo}
 
 -- what a worker has at its end: its pass, and what it made of its sources
 pub record Worked : Type 0 where

@@ -5,10 +5,10 @@ ghost use Rattle.std.specs.List.{AllByRecursion};
 ghost use Rattle.std.specs.Result.{result_err};
 ghost use Rattle.xet_clean.specs.Cleaning.{HasReason};
 ghost use Rattle.xet_locked_session.specs.Passes.{new_passes};
-ghost use Rattle.xet_steps.specs.Recorded.{IsRecorded};
-ghost use Rattle.xet_store.specs.Cleaning.{Adds, AreTaken, EachTold, HasFile, Keeps, Later, chunkings, info_of};
-ghost use Rattle.xet_store.specs.Separate.{Separate};
-ghost use Rattle.xet_store.specs.Store.{Sound, plan_of};
+ghost use Rattle.xet_store.specs.Recorded.{IsRecorded};
+ghost use Rattle.xet_store_disk.specs.Cleaning.{Adds, AreTaken, EachTold, HasFile, Keeps, Later, chunkings, info_of};
+ghost use Rattle.xet_store_disk.specs.Separate.{Separate};
+ghost use Rattle.xet_store_disk.specs.Store.{Sound, plan_of};
 ghost use Rattle.xet_workers.specs.Cleaning.{GrowsBy, IsBoundedBy, IsCleanedBy};
 ghost use Rattle.xet_workers.specs.internal.Ending.{Promises};
 
@@ -25,7 +25,7 @@ use xet_cut::Limits;
 use xet_hash::StoreError;
 use xet_io::{Disk, Source};
 use xet_locked_session::{Naming, Opened, Pass, StoppingSession};
-use xet_steps::Store;
+use xet_store::Store;
 
 /// Reads each of at most 2^20 sources to its end and stores its file. The sources are divided among the workers before the
 /// first is read, in order and evenly. All workers but the last run on threads of their own if these can be started, and the

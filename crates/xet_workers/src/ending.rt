@@ -4,7 +4,7 @@ ghost use Rattle.std.specs.Prelude.{◌≡◌, ◌≤◌, ◌<◌, ◌+◌, ◌^
 ghost use Rattle.std.specs.List.{sum_by};
 ghost use Rattle.xet_clean.specs.Merging.{MayMergeAll, Part};
 ghost use Rattle.xet_locked_session.specs.Passes.{NumbersDiffer};
-ghost use Rattle.xet_steps.specs.Alone.{alone_of};
+ghost use Rattle.xet_store.specs.Alone.{alone_of};
 ghost use Rattle.xet_workers.specs.internal.Ending.{HasMerged, IsLeftWith, IsUnended, MergedAlone, UnmergedAlone};
 ghost use Rattle.xet_workers.specs.internal.Parts.{ArePartsBy, all_worked};
 
@@ -12,7 +12,7 @@ use xet_clean::{Cleaned, Working, merge_all};
 use xet_hash::StoreError;
 use xet_io::Disk;
 use xet_locked_session::{Naming, Pass, StoppingSession};
-use xet_steps::{Alone, Store};
+use xet_store::{Alone, Store};
 
 /// The store, once all workers are done, and what was made of all sources: what is left of the parts is merged in order. Or the
 /// error of a worker.

@@ -1,8 +1,8 @@
 //! `Seat`: where a worker finds its pass, and puts what it made.
 
 ghost use Rattle.std.specs.Prelude.{◌≡◌, ◌⊎◌, ◌≤◌, ◌+◌, ◌++◌, ◌∷◌, [], Err, IfErr, IfOk, IsErrAnd, IsOkAnd, List, Ok, Some, length, map, vec_capacity};
-ghost use Rattle.xet_steps.specs.Holders.{Holder};
-ghost use Rattle.xet_store.specs.Separate.{Among};
+ghost use Rattle.xet_store.specs.Holders.{Holder};
+ghost use Rattle.xet_store_disk.specs.Separate.{Among};
 
 use std::alloc::{AllocError, Global};
 use xet_clean::Working;

@@ -2,7 +2,7 @@
 
 ghost use Rattle.std.specs.Prelude.{◌≡◌, ◌≤◌, ◌<◌, ◌+◌, ◌*◌, ◌/◌, ◌^◌, ◌++◌, length, map};
 ghost use Rattle.std.specs.Thread.{IsSend, IsSync};
-ghost use Rattle.xet_store.specs.Cleaning.{AreTaken, Later};
+ghost use Rattle.xet_store_disk.specs.Cleaning.{AreTaken, Later};
 ghost use Rattle.xet_workers.specs.Workers.{AreReady, HaveEnded};
 
 use crate::crew::Crew;

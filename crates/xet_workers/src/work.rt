@@ -7,7 +7,7 @@ ghost use Rattle.xet_clean.specs.Sources.{HasCleaned, IsCutShort, IsLoopError};
 ghost use Rattle.xet_clean.specs.declared.policy.Sha256Policy.TheVariants.{Compute};
 ghost use Rattle.xet_locked_session.specs.Passes.{IsPassOf};
 ghost use Rattle.xet_locked_session.specs.Passing.{IsPassing, passing_of};
-ghost use Rattle.xet_store.specs.Cleaning.{AreTaken, Later};
+ghost use Rattle.xet_store_disk.specs.Cleaning.{AreTaken, Later};
 ghost use Rattle.xet_workers.specs.Workers.{HasEnded, HasPassed, IsReady, NamesWithin, later_source};
 
 use crate::behind::Behind;
@@ -20,7 +20,7 @@ use xet_clean::{Sha256Policy, Working, clean_each};
 use xet_hash::{Place, StoreError, What};
 use xet_io::{Disk, Source};
 use xet_locked_session::{Naming, Pass, Passing};
-use xet_steps::Asking;
+use xet_store::Asking;
 
 /// Cleans the sources over a pass of the session, and returns the pass. Errors name the sources from 0 on.
 fn clean_part<D: Disk, J: Naming, S: Source, R: Threads + Wait>(

@@ -6,8 +6,8 @@ use Rattle.xet_aggregate.specs.declared.metrics.DeduplicationMetrics.{Deduplicat
 use Rattle.xet_choices.specs.Calls.{Call, queries_of, registered_chunks}
 use Rattle.xet_choices.specs.declared.choice.Choice.{Choice}
 use Rattle.xet_cut.specs.Limits.{AreInRange}
-use Rattle.xet_steps.specs.Holders.{Follows, Holder, calls_in}
-use Rattle.xet_store.specs.declared.info.XetFileInfo.{XetFileInfo}
+use Rattle.xet_store.specs.Holders.{Follows, Holder, calls_in}
+use Rattle.xet_store_disk.specs.declared.info.XetFileInfo.{XetFileInfo}
 use Rattle.xet_xorb_chunk.specs.Chunks.{chunk_leaf}
 use Rattle.xet_clean.specs.Cleaning.{IsPart, Lands, RegistersPart, metrics_sum}
 use Rattle.xet_clean.specs.Closing.{HaveForm, recorded_in}

@@ -19,10 +19,10 @@ use Rattle.xet_hash.specs.declared.error.Place.TheVariants.{Disk}
 use Rattle.xet_hash.specs.declared.error.StoreError.{StoreError}
 use Rattle.xet_hash.specs.declared.error.StoreError.TheVariants.{Io}
 use Rattle.xet_history.specs.declared.entry.StepKind.{StepKind}
-use Rattle.xet_steps.specs.Steps.{fault_entries}
-use Rattle.xet_steps.specs.Holders.{Follows, FollowsAsking, Holder, IsCall, calls_in, calls_of, core_found, ended, grown, numbered, seen}
-use Rattle.xet_steps.specs.Stepping.{SawComplete, SawError, SawOther, SawRegister}
-use Rattle.xet_steps.specs.theorems.Following.{calls_in-append, follows_nothing, follows_then, length-numbered, numbered-append}
+use Rattle.xet_store.specs.Steps.{fault_entries}
+use Rattle.xet_store.specs.Holders.{Follows, FollowsAsking, Holder, IsCall, calls_in, calls_of, core_found, ended, grown, numbered, seen}
+use Rattle.xet_store.specs.Stepping.{SawComplete, SawError, SawOther, SawRegister}
+use Rattle.xet_store.specs.theorems.Following.{calls_in-append, follows_nothing, follows_then, length-numbered, numbered-append}
 use Rattle.xet_xorb.specs.Raw.{xorb_record}
 use Rattle.xet_xorb_chunk.specs.Chunks.{chunk_leaf}
 use Rattle.xet_xorb_chunk.specs.declared.chunk.Chunk.{Chunk}

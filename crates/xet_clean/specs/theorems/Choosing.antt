@@ -16,8 +16,8 @@ use Rattle.xet_file_plan.specs.Moves.{counts_of}
 use Rattle.xet_file_plan.specs.theorems.Placed.{total_placed}
 use Rattle.xet_history.specs.declared.entry.Entry.{Entry}
 use Rattle.xet_shard_format.specs.declared.record.MDBFileInfo.{MDBFileInfo}
-use Rattle.xet_store.specs.Separate.{Among}
-use Rattle.xet_steps.specs.Holders.{Follows, Holder, calls_in, calls_of, numbered}
+use Rattle.xet_store_disk.specs.Separate.{Among}
+use Rattle.xet_store.specs.Holders.{Follows, Holder, calls_in, calls_of, numbered}
 use Rattle.xet_clean.specs.Cleaning.{AreChosen}
 use Rattle.xet_clean.specs.Files.{HasChoices, leaves_in}
 use Rattle.xet_clean.specs.Working.{AreRecorded, BeginsWithRecord, IsRecordOf, Planned, WasPlanned}

@@ -14,10 +14,10 @@ use Rattle.xet_history.specs.declared.entry.Entry.TheVariants.{Fault}
 use Rattle.xet_history.specs.declared.entry.StepKind.{StepKind}
 use Rattle.xet_history.specs.declared.entry.StepKind.TheVariants as step
 use Rattle.xet_shard_format.specs.declared.record.MDBFileInfo.{MDBFileInfo}
-use Rattle.xet_steps.specs.Interface.{IsErrorSince}
-use Rattle.xet_steps.specs.Holders.{Follows, Holder, calls_in, core_at, core_found, numbered, seen}
-use Rattle.xet_steps.specs.Stepping.{SawError, SawOther, cut_to_complete}
-use Rattle.xet_steps.specs.theorems.Following.{follows_nothing, follows_then}
+use Rattle.xet_store.specs.Interface.{IsErrorSince}
+use Rattle.xet_store.specs.Holders.{Follows, Holder, calls_in, core_at, core_found, numbered, seen}
+use Rattle.xet_store.specs.Stepping.{SawError, SawOther, cut_to_complete}
+use Rattle.xet_store.specs.theorems.Following.{follows_nothing, follows_then}
 use Rattle.xet_clean.specs.Closing.{IsAtMost, IsClosingError, Records}
 use Rattle.xet_clean.specs.theorems.Adding.{among_right, calls_error, calls_other, complete_cut_calls, complete_cut_none, records_error, records_other}
 use Rattle.xet_clean.specs.theorems.Counting.{complete_cut_count, complete_cut_pending, error_at_most, other_at_most}

@@ -13,10 +13,10 @@ use Rattle.xet_history.specs.theorems.Entries.{due_has_pending}
 use Rattle.xet_shard_format.specs.RecordSizes.{file_record_size, xorb_record_size}
 use Rattle.xet_shard_format.specs.Records.{file_record_hash}
 use Rattle.xet_shard_format.specs.declared.record.MDBFileInfo.{MDBFileInfo}
-use Rattle.xet_steps.specs.Steps.{fault_entries}
-use Rattle.xet_steps.specs.Holders.{Holder, core_found, ended, grown, numbered, seen}
-use Rattle.xet_steps.specs.Stepping.{SawComplete, SawError, SawOther, SawRegister}
-use Rattle.xet_steps.specs.theorems.Following.{follows_nothing, follows_then, length-numbered}
+use Rattle.xet_store.specs.Steps.{fault_entries}
+use Rattle.xet_store.specs.Holders.{Holder, core_found, ended, grown, numbered, seen}
+use Rattle.xet_store.specs.Stepping.{SawComplete, SawError, SawOther, SawRegister}
+use Rattle.xet_store.specs.theorems.Following.{follows_nothing, follows_then, length-numbered}
 use Rattle.xet_xorb.specs.Raw.{xorb_record}
 use Rattle.xet_clean.specs.Closing.{IsAtMost}
 

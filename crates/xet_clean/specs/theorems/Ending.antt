@@ -11,10 +11,10 @@ use Rattle.xet_choices.specs.declared.choice.Choice.{Choice}
 use Rattle.xet_choices.specs.theorems.Calls.{registered_chunks-append}
 use Rattle.xet_history.specs.declared.entry.Entry.{Entry}
 use Rattle.xet_shard_format.specs.declared.record.MDBFileInfo.{MDBFileInfo}
-use Rattle.xet_store.specs.Separate.{Among}
-use Rattle.xet_store.specs.declared.info.XetFileInfo.{XetFileInfo}
-use Rattle.xet_steps.specs.Holders.{Follows, Holder, calls_in}
-use Rattle.xet_steps.specs.theorems.Following.{calls_in-append, follows_then}
+use Rattle.xet_store_disk.specs.Separate.{Among}
+use Rattle.xet_store_disk.specs.declared.info.XetFileInfo.{XetFileInfo}
+use Rattle.xet_store.specs.Holders.{Follows, Holder, calls_in}
+use Rattle.xet_store.specs.theorems.Following.{calls_in-append, follows_then}
 use Rattle.xet_xorb_chunk.specs.Chunks.{chunk_leaf}
 use Rattle.xet_clean.specs.Cleaning.{RegistersFew, close_of}
 use Rattle.xet_clean.specs.Closing.{Closes, filled_files, recorded_in}

@@ -9,8 +9,8 @@ use Rattle.xet_cut.specs.declared.limits.LimitSettings.{LimitSettings}
 use Rattle.xet_hash.specs.Merkle.{file_hash, leaf_of}
 use Rattle.xet_shard_format.specs.Records.{file_record_hash}
 use Rattle.xet_shard_format.specs.declared.record.MDBFileInfo.{MDBFileInfo}
-use Rattle.xet_store.specs.Cleaning.{info_of}
-use Rattle.xet_steps.specs.Holders.{Follows, Holder}
+use Rattle.xet_store_disk.specs.Cleaning.{info_of}
+use Rattle.xet_store.specs.Holders.{Follows, Holder}
 use Rattle.xet_clean.specs.Files.{leaves_in}
 use Rattle.xet_clean.specs.Working.{IsRecordOf, Planned, WasPlanned}
 

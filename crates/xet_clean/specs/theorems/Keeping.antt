@@ -18,9 +18,9 @@ use Rattle.xet_history.specs.theorems.Staying.{listed_after_all, shards_after_al
 use Rattle.xet_shard_format.specs.declared.record.FileDataSequenceEntry.{FileDataSequenceEntry as Segment}
 use Rattle.xet_shard_format.specs.declared.record.MDBFileInfo.{MDBFileInfo}
 use Rattle.xet_xorb_chunk.specs.declared.chunk.Chunk.{Chunk}
-use Rattle.xet_steps.specs.Interface.{Stands}
-use Rattle.xet_steps.specs.Holders.{Follows, Holder, core_at, lengths_in}
-use Rattle.xet_steps.specs.theorems.Following.{follows_then}
+use Rattle.xet_store.specs.Interface.{Stands}
+use Rattle.xet_store.specs.Holders.{Follows, Holder, core_at, lengths_in}
+use Rattle.xet_store.specs.theorems.Following.{follows_then}
 use Rattle.xet_clean.specs.Merging.{HasSeen}
 use Rattle.xet_clean.specs.Working.{IsRecordOf, Planned, Waits, WasPlanned}
 

@@ -13,15 +13,15 @@ use Rattle.xet_history.specs.declared.entry.Entry.TheVariants.{Query, Register, 
 use Rattle.xet_history.specs.theorems.Staying.{completed_cases, none_if_new, records_after_all, registered_cases, with_record}
 use Rattle.xet_shard_format.specs.Records.{file_record_hash}
 use Rattle.xet_shard_format.specs.declared.record.MDBFileInfo.{MDBFileInfo}
-use Rattle.xet_store.specs.Cleaning.{Adds, info_of}
-use Rattle.xet_store.specs.Separate.{Among}
-use Rattle.xet_store.specs.Store.{Differ, plan_of}
-use Rattle.xet_store.specs.theorems.Rows.{from_among, is_some_found, to_among}
-use Rattle.xet_store.specs.theorems.Staying.{all_among}
+use Rattle.xet_store_disk.specs.Cleaning.{Adds, info_of}
+use Rattle.xet_store_disk.specs.Separate.{Among}
+use Rattle.xet_store_disk.specs.Store.{Differ, plan_of}
+use Rattle.xet_store_disk.specs.theorems.Rows.{from_among, is_some_found, to_among}
+use Rattle.xet_store_disk.specs.theorems.Staying.{all_among}
 use Rattle.xet_base.specs.Pieces.{pieces_after}
 use Rattle.xet_cut.specs.declared.limits.LimitSettings.{LimitSettings}
 use Rattle.xet_hash.specs.Hash.{zero_hash}
-use Rattle.xet_store.specs.theorems.Files.{plan_empty, plan_some}
+use Rattle.xet_store_disk.specs.theorems.Files.{plan_empty, plan_some}
 use Rattle.xet_clean.specs.Cleaning.{AreRecords, IsRecordFor, RecordsFile, files_in}
 use Rattle.xet_clean.specs.theorems.Closing.{among_cons}
 use Rattle.xet_clean.specs.theorems.Ending.{among_made}

@@ -17,8 +17,8 @@ use Rattle.xet_shard_format.specs.declared.record.FileVerificationEntry.{FileVer
 use Rattle.xet_shard_format.specs.declared.record.MDBFileInfo.{MDBFileInfo}
 use Rattle.xet_xorb_chunk.specs.declared.chunk.Chunk.{Chunk}
 use Rattle.xet_xorb_chunk.specs.Chunks.{chunk_leaf, total}
-use Rattle.xet_steps.specs.Interface.{Stands}
-use Rattle.xet_steps.specs.Holders.{Holder, core_at, lengths_in}
+use Rattle.xet_store.specs.Interface.{Stands}
+use Rattle.xet_store.specs.Holders.{Holder, core_at, lengths_in}
 use Rattle.xet_clean.specs.Closing.{filled_files}
 use Rattle.xet_clean.specs.Working.{AreRecorded, IsRecordOf, Planned, Waits}
 use Rattle.xet_clean.specs.theorems.InOrder.{recorded_changed_after}

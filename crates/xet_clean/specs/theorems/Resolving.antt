@@ -22,10 +22,10 @@ use Rattle.xet_history.specs.Sound.{IsKey, IsStanding}
 use Rattle.xet_io.specs.Disk.{Files}
 use Rattle.xet_shard.specs.Queries.{kept_hash}
 use Rattle.xet_shard_format.specs.declared.record.FileDataSequenceEntry.{FileDataSequenceEntry as Segment}
-use Rattle.xet_store.specs.Separate.{Among}
-use Rattle.xet_store.specs.theorems.Plans.{part-map}
-use Rattle.xet_store.specs.theorems.Whole.{mapped}
-use Rattle.xet_steps.specs.Holders.{lengths_in}
+use Rattle.xet_store_disk.specs.Separate.{Among}
+use Rattle.xet_store_disk.specs.theorems.Plans.{part-map}
+use Rattle.xet_store_disk.specs.theorems.Whole.{mapped}
+use Rattle.xet_store.specs.Holders.{lengths_in}
 use Rattle.xet_xorb.specs.Raw.{raw_leaves, raw_of}
 use Rattle.xet_xorb.specs.declared.raw.RawXorbData.{RawXorbData}
 use Rattle.xet_xorb_chunk.specs.Chunks.{bytes_of_chunk, chunk_leaf}

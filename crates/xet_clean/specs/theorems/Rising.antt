@@ -14,8 +14,8 @@ use Rattle.xet_choices.specs.declared.choice.Choice.{Choice}
 use Rattle.xet_choices.specs.declared.choice.Choice.TheVariants.{Reused, NoPlace, Refused, Inside}
 use Rattle.xet_choices.specs.theorems.Calls.{asked_before}
 use Rattle.xet_choices.specs.theorems.Entries.{no_place_entries-append}
-use Rattle.xet_steps.specs.Holders.{Follows, Holder, calls_in, calls_of}
-use Rattle.xet_steps.specs.theorems.Following.{calls_in-append}
+use Rattle.xet_store.specs.Holders.{Follows, Holder, calls_in, calls_of}
+use Rattle.xet_store.specs.theorems.Following.{calls_in-append}
 use Rattle.xet_clean.specs.Planning.{IsPlanned}
 use Rattle.xet_clean.specs.Working.{Planned, WasPlanned}
 

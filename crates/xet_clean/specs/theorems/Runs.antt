@@ -10,7 +10,7 @@ use Rattle.xet_file_plan.specs.theorems.Joining.{goes_on_there}
 use Rattle.xet_folder.specs.Plan.{part}
 use Rattle.xet_hash.specs.Merkle.{chunk_hash}
 use Rattle.xet_shard_format.specs.declared.record.FileDataSequenceEntry.{FileDataSequenceEntry as Segment}
-use Rattle.xet_store.specs.Separate.{Among}
+use Rattle.xet_store_disk.specs.Separate.{Among}
 
 -- ---- parts of a list have its elements
 

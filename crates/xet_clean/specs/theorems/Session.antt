@@ -17,16 +17,16 @@ use Rattle.xet_history.specs.declared.entry.Entry.{Entry}
 use Rattle.xet_folder.specs.Xorbs.{found}
 use Rattle.xet_shard_format.specs.Records.{file_record_hash}
 use Rattle.xet_shard_format.specs.declared.record.MDBFileInfo.{MDBFileInfo}
-use Rattle.xet_steps.specs.Recorded.{RecordedState, core_of}
-use Rattle.xet_steps.specs.Steps.{Steps}
-use Rattle.xet_store.specs.Cleaning.{Adds, EachTold, HasFile, chunkings, info_of}
-use Rattle.xet_store.specs.Separate.{Among, Separate}
-use Rattle.xet_store.specs.Store.{Sound, plan_of}
-use Rattle.xet_store.specs.declared.info.XetFileInfo.{XetFileInfo}
-use Rattle.xet_store.specs.theorems.Files.{recorded_file}
-use Rattle.xet_steps.specs.Alone.{IsAlone, StepsTo, StepsUntil, alone_of}
-use Rattle.xet_steps.specs.Holders.{Follows, Holder, calls_in, core_at, numbered}
-use Rattle.xet_steps.specs.theorems.Following.{length-numbered}
+use Rattle.xet_store.specs.Recorded.{RecordedState, core_of}
+use Rattle.xet_store.specs.Steps.{Steps}
+use Rattle.xet_store_disk.specs.Cleaning.{Adds, EachTold, HasFile, chunkings, info_of}
+use Rattle.xet_store_disk.specs.Separate.{Among, Separate}
+use Rattle.xet_store_disk.specs.Store.{Sound, plan_of}
+use Rattle.xet_store_disk.specs.declared.info.XetFileInfo.{XetFileInfo}
+use Rattle.xet_store_disk.specs.theorems.Files.{recorded_file}
+use Rattle.xet_store.specs.Alone.{IsAlone, StepsTo, StepsUntil, alone_of}
+use Rattle.xet_store.specs.Holders.{Follows, Holder, calls_in, core_at, numbered}
+use Rattle.xet_store.specs.theorems.Following.{length-numbered}
 use Rattle.xet_clean.specs.Cleaning.{AreChosen, AreRecords, ClosesLast, EachTaken, Grows, IsBounded, IsCleaned, Makes, RecordsFile, RegistersFew, calls_since, entries_since, files_in, metrics_sum}
 use Rattle.xet_clean.specs.Closing.{recorded_in}
 use Rattle.xet_clean.specs.Sources.{IsCutShort}

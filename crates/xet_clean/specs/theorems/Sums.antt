@@ -13,7 +13,7 @@ use Rattle.xet_cut.specs.Limits.{AreInRange}
 use Rattle.xet_cut.specs.declared.limits.LimitSettings.{LimitSettings}
 use Rattle.xet_dedup.specs.Deduping.{metrics_of, metrics_of_both}
 use Rattle.xet_hash.specs.Merkle.{leaf_of, leaves_of, total_len}
-use Rattle.xet_steps.specs.Holders.{Holder}
+use Rattle.xet_store.specs.Holders.{Holder}
 use Rattle.xet_clean.specs.Cleaning.{metrics_sum}
 use Rattle.xet_clean.specs.Files.{leaves_in}
 use Rattle.xet_clean.specs.Planning.{IsPlanned}

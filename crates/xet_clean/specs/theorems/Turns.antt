@@ -4,7 +4,7 @@ use Rattle.std.proofs.lemmas.List.{drop_at}
 use Rattle.std.specs.List.{AllByRecursion}
 use Rattle.xet_io.specs.Faults.{Rose}
 use Rattle.xet_io.specs.Frame.{Stays}
-use Rattle.xet_store.specs.Cleaning.{AreTaken, EachTold, IsLongAt, Later, RoseAt}
+use Rattle.xet_store_disk.specs.Cleaning.{AreTaken, EachTold, IsLongAt, Later, RoseAt}
 use Rattle.xet_clean.specs.Cleaning.{EachTaken}
 use Rattle.xet_clean.specs.Sources.{AreDone, AreRead, IsDone, IsTakenFrom, Takes}
 use Rattle.xet_clean.specs.Working.{Planned}

@@ -7,8 +7,8 @@ use Rattle.xet_hash.specs.declared.error.StoreError.TheVariants.{Io, OutOfMemory
 use Rattle.xet_hash.specs.declared.error.What.TheVariants as what
 use Rattle.xet_hash_files.specs.Hashing.{hashed_info}
 use Rattle.xet_io.specs.Faults.{Rose}
-use Rattle.xet_store.specs.Cleaning.{IsLongAt, RoseAt}
-use Rattle.xet_store.specs.declared.info.XetFileInfo.{XetFileInfo}
+use Rattle.xet_store_disk.specs.Cleaning.{IsLongAt, RoseAt}
+use Rattle.xet_store_disk.specs.declared.info.XetFileInfo.{XetFileInfo}
 
 -- These bytes were taken from a source; all that were left if `all`.
 pub record Takes (all : Bool) (tells : Bool) (left rest bytes : List ℕ) : Type 0 where

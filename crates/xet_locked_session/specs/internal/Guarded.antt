@@ -2,10 +2,10 @@
 use Rattle.std.specs.Prelude.{◌≡◌, ◌⊎◌, Bool, true, false, List, [], ◌++◌, ℕ}
 use Rattle.xet_hash.specs.declared.error.StoreError.{StoreError}
 use Rattle.xet_history.specs.declared.entry.Entry.{Entry}
-use Rattle.xet_steps.specs.Alone.{MayBeAsked, Step, cut_of, kind_of}
-use Rattle.xet_steps.specs.Changes.{ChangesFiles, Tries}
-use Rattle.xet_steps.specs.Recorded.{RecordedState, core_of}
-use Rattle.xet_steps.specs.Steps.{fault_entries}
+use Rattle.xet_store.specs.Alone.{MayBeAsked, Step, cut_of, kind_of}
+use Rattle.xet_store.specs.Changes.{ChangesFiles, Tries}
+use Rattle.xet_store.specs.Recorded.{RecordedState, core_of}
+use Rattle.xet_store.specs.Steps.{fault_entries}
 use Rattle.xet_locked_session.specs.Shared.{HaveEnded, HaveMade, StepOf, attempted}
 
 -- Between two states of a store one step of a pass was completed.

@@ -2,8 +2,8 @@
 use Rattle.std.specs.Prelude.{◌≡◌, ℕ, Bool, List, [], ◌∷◌, ◌++◌, Option}
 use Rattle.xet_choices.specs.Calls.{Call}
 use Rattle.xet_locked_session.specs.Passes.{IsPassOf}
-use Rattle.xet_steps.specs.Holders.{Holder, calls_of}
-use Rattle.xet_steps.specs.Recorded.{RecordedState}
+use Rattle.xet_store.specs.Holders.{Holder, calls_of}
+use Rattle.xet_store.specs.Recorded.{RecordedState}
 use Rattle.xet_locked_session.specs.Passing.{IsPassing, passing_of}
 
 -- If the last call of a holder is a query, this is the number of its entry.

@@ -15,9 +15,9 @@ use Rattle.xet_shard.specs.Runs.{held_run}
 use Rattle.xet_shard_format.specs.Records.{file_record_hash}
 use Rattle.xet_shard_format.specs.declared.record.FileDataSequenceEntry.{FileDataSequenceEntry as Segment}
 use Rattle.xet_shard_format.specs.declared.record.MDBFileInfo.{MDBFileInfo}
-use Rattle.xet_steps.specs.Changes.{ChangesFiles}
-use Rattle.xet_steps.specs.Recorded.{RecordedState, core_of}
-use Rattle.xet_steps.specs.Steps.{Steps}
+use Rattle.xet_store.specs.Changes.{ChangesFiles}
+use Rattle.xet_store.specs.Recorded.{RecordedState, core_of}
+use Rattle.xet_store.specs.Steps.{Steps}
 use Rattle.xet_locked_session.specs.Passes.{flushed_hash}
 use Rattle.xet_locked_session.specs.Session.{HasRisenBy, fault_count}
 

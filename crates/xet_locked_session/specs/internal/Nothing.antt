@@ -3,8 +3,8 @@ use Rattle.std.specs.Prelude.{[], false}
 use Rattle.xet_io.specs.Disk.{no_files}
 use Rattle.atomic_table.specs.Seated.{TableId}
 use Rattle.xet_shard.specs.Held.{nothing}
-use Rattle.xet_steps.specs.Recorded.{RecordedState}
-use Rattle.xet_store.specs.Store.{state}
+use Rattle.xet_store.specs.Recorded.{RecordedState}
+use Rattle.xet_store_disk.specs.Store.{state}
 use Rattle.xet_xorb_chunk.specs.declared.scheme.CompressionScheme.TheVariants as scheme
 
 abbrev pub no_table : TableId

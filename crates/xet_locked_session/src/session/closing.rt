@@ -4,7 +4,7 @@ ghost use Rattle.std.specs.Prelude.{◌≡◌, ◌⊎◌, ◌≤◌, ◌+◌, �
 ghost use Rattle.std.specs.List.{AllByRecursion};
 ghost use mathlib.Core.List.{IsPrefix};
 ghost use Rattle.xet_shared_history.specs.Owned.{HasEachOnce};
-ghost use Rattle.xet_steps.specs.Holders.{seen};
+ghost use Rattle.xet_store.specs.Holders.{seen};
 ghost use Rattle.xet_locked_session.specs.Passes.{IsSeen, NumbersDiffer, own_numbers};
 ghost use Rattle.xet_locked_session.specs.Session.{IsSince, fault_count};
 ghost use Rattle.xet_locked_session.specs.Shared.{HaveEnded, HaveMade};
@@ -15,7 +15,7 @@ use crate::naming::Naming;
 use std::sync::ledger::Share;
 use xet_io::Disk;
 use xet_shared_history::{HistoryWord, Writer};
-use xet_steps::Store;
+use xet_store::Store;
 
 impl<D: Disk, J: Naming> SharedStore<D, J> {
     /// The store, whether or not passes are left. That passes made the entries which were added since is promised by

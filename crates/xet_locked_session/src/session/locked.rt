@@ -8,8 +8,8 @@ ghost use Rattle.xet_locked_session.specs.Passes.{FlushFailed, IsSeen, NumbersDi
 ghost use Rattle.xet_locked_session.specs.Session.{IsSince};
 ghost use Rattle.xet_shard_format.specs.Records.{IsFile};
 ghost use Rattle.xet_shared_history.specs.Owned.{HasEachOnce};
-ghost use Rattle.xet_steps.specs.Holders.{seen, xorb_limits};
-ghost use Rattle.xet_steps.specs.Stepping.{SawComplete, SawQuery, SawRegister, cut_to_complete, cut_to_register, no_cut};
+ghost use Rattle.xet_store.specs.Holders.{seen, xorb_limits};
+ghost use Rattle.xet_store.specs.Stepping.{SawComplete, SawQuery, SawRegister, cut_to_complete, cut_to_register, no_cut};
 ghost use Rattle.xet_xorb.specs.Raw.{raw_leaves};
 
 use super::{LockedSession, Pass, SharedStore};
@@ -20,7 +20,7 @@ use xet_hash::{MerkleHash, StoreError};
 use xet_history::StepKind;
 use xet_io::Disk;
 use xet_shard_format::{FileDataSequenceEntry, MDBFileInfo};
-use xet_steps::Store;
+use xet_store::Store;
 use xet_xorb::RawXorbData;
 
 impl<D: Disk, J: Naming> LockedSession<D, J> {

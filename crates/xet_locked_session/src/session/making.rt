@@ -16,7 +16,7 @@ use std::sync::ledger::{Blank, Share};
 use xet_hash::StoreError;
 use xet_io::Disk;
 use xet_shared_history::{HistoryWord, Writer};
-use xet_steps::Store;
+use xet_store::Store;
 
 impl Opened {
     /// For a session with this many passes.

@@ -6,11 +6,11 @@ ghost use Rattle.xet_history.specs.History.{complete_cut, complete_entries, regi
 ghost use Rattle.xet_locked_session.specs.Session.{IsSince};
 ghost use Rattle.xet_locked_session.specs.internal.Made.{Completed, Flushed, Grew, Queried, Registered};
 ghost use Rattle.xet_shard_format.specs.Records.{IsFile};
-ghost use Rattle.xet_steps.specs.Changes.{ChangesFiles, Tries};
-ghost use Rattle.xet_steps.specs.Recorded.{IsRecorded, core_of};
-ghost use Rattle.xet_steps.specs.Steps.{FailsAsking, IsOtherFile, Refuses};
-ghost use Rattle.xet_steps.specs.Holders.{xorb_limits};
-ghost use Rattle.xet_store.specs.Store.{Sound};
+ghost use Rattle.xet_store.specs.Changes.{ChangesFiles, Tries};
+ghost use Rattle.xet_store.specs.Recorded.{IsRecorded, core_of};
+ghost use Rattle.xet_store.specs.Steps.{FailsAsking, IsOtherFile, Refuses};
+ghost use Rattle.xet_store.specs.Holders.{xorb_limits};
+ghost use Rattle.xet_store_disk.specs.Store.{Sound};
 ghost use Rattle.xet_xorb.specs.Raw.{raw_leaves};
 
 use super::NamedStore;

@@ -1,7 +1,7 @@
 //! What a pass knows of itself.
 
 ghost use Rattle.std.specs.Prelude.{◌≡◌, length, map};
-ghost use Rattle.xet_steps.specs.Holders.{seen};
+ghost use Rattle.xet_store.specs.Holders.{seen};
 ghost use Rattle.xet_locked_session.specs.Passes.{IsPassOf, IsSeen};
 
 use super::Pass;

@@ -4,8 +4,8 @@ ghost use Rattle.std.specs.Prelude.{◌≡◌, ◌⊎◌, IfErr, IfOk, false, tr
 ghost use Rattle.xet_dedup_queries.specs.Registering.{IsDue, IsNewXorb};
 ghost use Rattle.xet_locked_session.specs.Passes.{FlushFailed, OtherFile, SawFlush, StepFailed};
 ghost use Rattle.xet_shard_format.specs.Records.{IsFile};
-ghost use Rattle.xet_steps.specs.Holders.{xorb_limits};
-ghost use Rattle.xet_steps.specs.Stepping.{SawComplete, SawQuery, SawRegister, cut_to_complete, cut_to_register, no_cut};
+ghost use Rattle.xet_store.specs.Holders.{xorb_limits};
+ghost use Rattle.xet_store.specs.Stepping.{SawComplete, SawQuery, SawRegister, cut_to_complete, cut_to_register, no_cut};
 ghost use Rattle.xet_xorb.specs.Raw.{raw_leaves};
 
 use super::{Pass, SharedStore};

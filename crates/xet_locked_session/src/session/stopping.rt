@@ -7,14 +7,14 @@ ghost use Rattle.xet_locked_session.specs.Passes.{IsSeen, NumbersDiffer, own_num
 ghost use Rattle.xet_locked_session.specs.Session.{IsSince, fault_count};
 ghost use Rattle.xet_locked_session.specs.Shared.{HaveEnded, HaveMade};
 ghost use Rattle.xet_shared_history.specs.Owned.{HasEachOnce};
-ghost use Rattle.xet_steps.specs.Holders.{seen};
+ghost use Rattle.xet_store.specs.Holders.{seen};
 
 use super::{Pass, SharedStore, StoppingSession};
 use crate::naming::Naming;
 use std::sync::Wait;
 use xet_cut::Limits;
 use xet_io::Disk;
-use xet_steps::Store;
+use xet_store::Store;
 
 impl<D: Disk, J: Naming> StoppingSession<D, J> {
     /// No later step does anything, as after one that failed. It waits for the lock.

@@ -6,18 +6,18 @@ use Rattle.std.specs.List.{AllByRecursion, IsAmong, flat_map}
 use Rattle.xet_io.specs.Disk.{Files}
 use Rattle.xet_io.specs.Named.{Named}
 use Rattle.xet_cut.specs.Chunking.{chunking}
-use Rattle.xet_store.specs.declared.info.XetFileInfo.{XetFileInfo}
-use Rattle.xet_store.specs.Cleaning.{EachTold, HasFile, info_of}
-use Rattle.xet_store.specs.Separate.{Separate}
-use Rattle.xet_store.specs.Store.{State}
+use Rattle.xet_store_disk.specs.declared.info.XetFileInfo.{XetFileInfo}
+use Rattle.xet_store_disk.specs.Cleaning.{EachTold, HasFile, info_of}
+use Rattle.xet_store_disk.specs.Separate.{Separate}
+use Rattle.xet_store_disk.specs.Store.{State}
 use Rattle.xet_clean.specs.Cleaning.{RecordsFile}
 use Rattle.xet_clean.specs.declared.policy.Sha256Policy.TheVariants.{Compute}
 use Rattle.xet_history.specs.declared.entry.Entry.{Entry}
 use Rattle.xet_history.specs.declared.entry.Entry.TheVariants.{Complete}
 use Rattle.xet_shard_format.specs.Records.{file_record_hash}
 use Rattle.xet_shard_format.specs.declared.record.MDBFileInfo.{MDBFileInfo}
-use Rattle.xet_steps.specs.Recorded.{RecordedState}
-use Rattle.xet_steps.specs.Steps.{Steps}
+use Rattle.xet_store.specs.Recorded.{RecordedState}
+use Rattle.xet_store.specs.Steps.{Steps}
 use Rattle.xet_program.specs.declared.ending.Stop.{Stop}
 use Rattle.xet_program.specs.Allowed.{are_short}
 use Rattle.xet_program.specs.Answers.{AreNamed, AreSeparate}

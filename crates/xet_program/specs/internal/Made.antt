@@ -5,8 +5,8 @@ use Rattle.xet_aggregate.specs.declared.metrics.DeduplicationMetrics.{Deduplicat
 use Rattle.xet_cut.specs.Chunking.{chunking}
 use Rattle.xet_cut.specs.declared.limits.LimitSettings.{LimitSettings}
 use Rattle.xet_folder.specs.Xorbs.{Xorbs}
-use Rattle.xet_store.specs.Cleaning.{EachTold}
-use Rattle.xet_store.specs.Store.{State, plan_of}
+use Rattle.xet_store_disk.specs.Cleaning.{EachTold}
+use Rattle.xet_store_disk.specs.Store.{State, plan_of}
 use Rattle.xet_program.specs.declared.make.ChunkCounts.{ChunkCounts}
 use Rattle.xet_program.specs.Making.{both_files, chunk_count, chunks_line, made_text, with_byte_inserted, xorbs_line}
 use Rattle.xet_program.specs.Report.{hash_of_file}

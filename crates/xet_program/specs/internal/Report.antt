@@ -3,7 +3,7 @@ use Rattle.std.specs.Prelude.{ℕ, List, [], ◌∷◌, ◌++◌, Option, Some, 
 use Rattle.std.specs.Fmt.{decimal}
 use Rattle.hex.specs.Hex.{encode_lower}
 use Rattle.xet_hash.specs.Hash.{hash_text}
-use Rattle.xet_store.specs.declared.info.XetFileInfo.{XetFileInfo}
+use Rattle.xet_store_disk.specs.declared.info.XetFileInfo.{XetFileInfo}
 
 -- the SHA-256 of a pointer record in hexadecimal; nothing if there is none
 abbrev pub sha256_text : Option (List ℕ) → List ℕ

@@ -11,11 +11,11 @@ use Rattle.xet_shard_format.specs.declared.record.FileDataSequenceEntry.{FileDat
 use Rattle.xet_shard.specs.Held.{nothing}
 use Rattle.xet_folder.specs.Listed.{Lists}
 use Rattle.xet_folder.specs.Xorbs.{found}
-use Rattle.xet_store.specs.declared.info.XetFileInfo.{XetFileInfo}
-use Rattle.xet_store.specs.Ranges.{IsRange}
-use Rattle.xet_store.specs.Store.{State}
-use Rattle.xet_steps.specs.Recorded.{RecordedState}
-use Rattle.xet_steps.specs.Steps.{Steps}
+use Rattle.xet_store_disk.specs.declared.info.XetFileInfo.{XetFileInfo}
+use Rattle.xet_store_disk.specs.Ranges.{IsRange}
+use Rattle.xet_store_disk.specs.Store.{State}
+use Rattle.xet_store.specs.Recorded.{RecordedState}
+use Rattle.xet_store.specs.Steps.{Steps}
 use Rattle.xet_program.specs.declared.lines.FileRange.{FileRange}
 use Rattle.xet_program.specs.Report.{bytes_line, hash_of_file}
 

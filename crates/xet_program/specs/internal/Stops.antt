@@ -17,9 +17,9 @@ use Rattle.xet_folder.specs.declared.contents.Contents.{Contents}
 use Rattle.xet_cut.specs.Chunking.{chunking}
 use Rattle.xet_cut.specs.declared.limits.LimitSettings.{LimitSettings}
 use Rattle.xet_clean.specs.Cleaning.{AreApartUnder, NoneEnds}
-use Rattle.xet_steps.specs.Recorded.{RecordedState}
-use Rattle.xet_store.specs.Cleaning.{IsLongAt, RoseAt, chunkings}
-use Rattle.xet_store.specs.Store.{State}
+use Rattle.xet_store.specs.Recorded.{RecordedState}
+use Rattle.xet_store_disk.specs.Cleaning.{IsLongAt, RoseAt, chunkings}
+use Rattle.xet_store_disk.specs.Store.{State}
 use Rattle.xet_program.specs.declared.ending.Stop.{Stop}
 use Rattle.xet_program.specs.declared.ending.Stop.TheVariants.{OutOfMemory, Input, TooLarge, BadLine, NotFound, Disk, BadShard, Malformed}
 use Rattle.xet_program.specs.Lines.{first_bad}

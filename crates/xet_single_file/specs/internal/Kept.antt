@@ -8,8 +8,8 @@ use Rattle.xet_cut.specs.Streams.{Splitting}
 use Rattle.xet_file_plan.specs.Moves.{PlanState}
 use Rattle.xet_locked_session.specs.Passes.{IsPassOf}
 use Rattle.xet_locked_session.specs.Passing.{IsPassing, PassingState, passing_of, passing_state}
-use Rattle.xet_steps.specs.Holders.{Holder}
-use Rattle.xet_steps.specs.Recorded.{RecordedState}
+use Rattle.xet_store.specs.Holders.{Holder}
+use Rattle.xet_store.specs.Recorded.{RecordedState}
 
 -- what a pass that makes steps has seen and done, as a holder
 abbrev pub holder_in : PassingState → Holder

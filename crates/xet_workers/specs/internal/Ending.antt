@@ -16,13 +16,13 @@ use Rattle.xet_locked_session.specs.Passes.{IsSeen, own_numbers}
 use Rattle.xet_locked_session.specs.Session.{IsSince}
 use Rattle.xet_locked_session.specs.Shared.{HaveEnded, HaveMade}
 use Rattle.xet_shared_history.specs.Owned.{HasEachOnce}
-use Rattle.xet_steps.specs.Alone.{IsAlone, alone_of}
-use Rattle.xet_steps.specs.Holders.{Holder, seen}
-use Rattle.xet_steps.specs.Recorded.{RecordedState}
-use Rattle.xet_store.specs.Cleaning.{Adds, AreTaken, EachTold, HasFile, Keeps, Later, chunkings, info_of}
-use Rattle.xet_store.specs.Separate.{Separate}
-use Rattle.xet_store.specs.Store.{plan_of}
-use Rattle.xet_store.specs.declared.info.XetFileInfo.{XetFileInfo}
+use Rattle.xet_store.specs.Alone.{IsAlone, alone_of}
+use Rattle.xet_store.specs.Holders.{Holder, seen}
+use Rattle.xet_store.specs.Recorded.{RecordedState}
+use Rattle.xet_store_disk.specs.Cleaning.{Adds, AreTaken, EachTold, HasFile, Keeps, Later, chunkings, info_of}
+use Rattle.xet_store_disk.specs.Separate.{Separate}
+use Rattle.xet_store_disk.specs.Store.{plan_of}
+use Rattle.xet_store_disk.specs.declared.info.XetFileInfo.{XetFileInfo}
 use Rattle.xet_workers.specs.Cleaning.{GrowsBy, IsBoundedBy, IsCleanedBy}
 
 -- ---- the session is closed

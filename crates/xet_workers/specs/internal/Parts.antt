@@ -6,8 +6,8 @@ use Rattle.xet_clean.specs.Working.{IsWorking}
 use Rattle.xet_clean.specs.declared.policy.Sha256Policy.TheVariants.{Compute}
 use Rattle.xet_clean.specs.declared.working.Working.{Working}
 use Rattle.xet_locked_session.specs.Passing.{passing_of}
-use Rattle.xet_steps.specs.Holders.{Holder}
-use Rattle.xet_steps.specs.Recorded.{RecordedState}
+use Rattle.xet_store.specs.Holders.{Holder}
+use Rattle.xet_store.specs.Recorded.{RecordedState}
 use Rattle.xet_workers.specs.Workers.{HasPassed, Worked, worked}
 
 -- The part is what the worker made whose pass has this number. The SHA-256 of each file was computed.

@@ -2,9 +2,9 @@ use Rattle.std.proofs.Common.{◌+◌, ◌*◌, inl, inr, List, ℕ, length, ref
 use Rattle.std.proofs.lemmas.Result.{IfErr-weaker, on_ok_weaker}
 use Rattle.xet_base.specs.theorems.Exits.{exit_with}
 use Rattle.xet_dedup_queries.specs.Registering.{IsDue}
-use Rattle.xet_steps.specs.Holders.{xorb_limits}
-use Rattle.xet_steps.specs.Stepping.{SawRegister}
-use Rattle.xet_steps.specs.theorems.Following.{follows_nothing}
+use Rattle.xet_store.specs.Holders.{xorb_limits}
+use Rattle.xet_store.specs.Stepping.{SawRegister}
+use Rattle.xet_store.specs.theorems.Following.{follows_nothing}
 use Rattle.xet_xorb.specs.Raw.{raw_leaves}
 use Rattle.xet_clean.specs.Closing.{IsClosingError, IsUnclosed, RegistersAtMost}
 use Rattle.xet_clean.proofs.Completing.{WasRegistered, closes_either, error_either, forms_are, leaves_of_made, most_either, most_refused, new_xorb, records_of, unclosed_nothing, unclosed_refused}

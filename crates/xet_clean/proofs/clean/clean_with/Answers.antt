@@ -1,7 +1,7 @@
 use Rattle.std.proofs.Common.{◌∙◌, ap, subst, sym}
 use Rattle.xet_clean.specs.declared.info.Cleaned.{Cleaned}
-use Rattle.xet_steps.specs.Alone.{AloneState, alone_of}
-use Rattle.xet_steps.specs.Holders.{Follows}
+use Rattle.xet_store.specs.Alone.{AloneState, alone_of}
+use Rattle.xet_store.specs.Holders.{Follows}
 use Rattle.xet_clean.proofs.Promising.{IsResult, alone_promises}
 use Rattle.xet_clean.proofs.clean.clean_with.Goals as goal
 

@@ -1,10 +1,10 @@
 use Rattle.std.proofs.Common.{◌≡◌, ◌∙◌, ℕ, List, [], ◌++◌, length, map, ap, append-nil, refl, subst, sym, arith, eqb-true}
 use Rattle.std.proofs.lemmas.List.{length-map, nil_from_length}
 use Rattle.xet_dedup.specs.theorems.Adding.{placed_calls, stopped_calls}
-use Rattle.xet_steps.specs.Interface.{IsErrorSince}
-use Rattle.xet_steps.specs.theorems.Following.{extends_asking}
+use Rattle.xet_store.specs.Interface.{IsErrorSince}
+use Rattle.xet_store.specs.theorems.Following.{extends_asking}
 use Rattle.xet_xorb_chunk.specs.Chunks.{chunk_leaf}
-use Rattle.xet_steps.specs.theorems.Following.{asking_nothing}
+use Rattle.xet_store.specs.theorems.Following.{asking_nothing}
 use Rattle.xet_xorb_chunk.specs.declared.chunk.Chunk.{Chunk}
 use Rattle.xet_clean.specs.Cleaner.{StopsInBatch}
 use Rattle.xet_clean.proofs.Batches.{batch_error, batch_of, some_chunks, stops_in_batch}

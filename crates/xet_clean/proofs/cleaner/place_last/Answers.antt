@@ -1,7 +1,7 @@
 use Rattle.std.proofs.Common.{◌++◌, [], List, true, sym, subst}
 use Rattle.std.proofs.lemmas.Result.{on_err_weaker, on_ok_weaker}
 use Rattle.xet_cut.specs.Streams.{IsBlock}
-use Rattle.xet_steps.specs.theorems.Following.{asking_nothing}
+use Rattle.xet_store.specs.theorems.Following.{asking_nothing}
 use Rattle.xet_xorb_chunk.specs.declared.chunk.Chunk.{Chunk}
 use Rattle.xet_clean.specs.Cleaner.{IsCleaningBytes}
 use Rattle.xet_clean.proofs.Cleaning.{few_here, few_last, last_chunks, last_few, on_err, placed_by, planned_last}

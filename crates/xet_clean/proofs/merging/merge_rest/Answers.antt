@@ -4,7 +4,7 @@ use Rattle.std.specs.List.{AllByRecursion}
 use Rattle.std.specs.Vec.Iter.{into_iter_items}
 use Rattle.xet_base.specs.theorems.Exits.{exit_with}
 use Rattle.xet_dedup_queries.specs.Counting.{HasNext}
-use Rattle.xet_steps.specs.theorems.Following.{follows_nothing, follows_then}
+use Rattle.xet_store.specs.theorems.Following.{follows_nothing, follows_then}
 use Rattle.xet_clean.specs.Merging.{IsUnmerged}
 use Rattle.xet_clean.specs.declared.working.Working.{Working}
 use Rattle.xet_clean.specs.internal.Merging.{IsMerging}

@@ -1,6 +1,6 @@
 use Rattle.std.proofs.Common.{◌≡◌, List, length}
 use Rattle.std.specs.Vec.Iter.{into_iter_items, into_iter_len}
-use Rattle.xet_steps.specs.Holders.{Follows, Holder}
+use Rattle.xet_store.specs.Holders.{Follows, Holder}
 use Rattle.xet_clean.specs.Merging.{Part}
 use Rattle.xet_clean.specs.internal.Merging.{IsMerging}
 use Rattle.xet_clean.proofs.merging.merge_rest.Given as goal

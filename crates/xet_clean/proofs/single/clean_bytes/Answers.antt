@@ -4,9 +4,9 @@ use Rattle.xet_aggregate.specs.declared.metrics.DeduplicationMetrics.{Deduplicat
 use Rattle.xet_choices.specs.declared.choice.Choice.{Choice}
 use Rattle.xet_cut.specs.Chunking.{chunking}
 use Rattle.xet_hash.specs.declared.error.StoreError.{StoreError}
-use Rattle.xet_store.specs.Cleaning.{HasFile}
-use Rattle.xet_store.specs.Separate.{Separate}
-use Rattle.xet_store.specs.declared.info.XetFileInfo.{XetFileInfo}
+use Rattle.xet_store_disk.specs.Cleaning.{HasFile}
+use Rattle.xet_store_disk.specs.Separate.{Separate}
+use Rattle.xet_store_disk.specs.declared.info.XetFileInfo.{XetFileInfo}
 use Rattle.xet_clean.specs.Cleaning.{HasReason, IsBounded, IsCleaned}
 use Rattle.xet_clean.specs.Policies.{info_by}
 use Rattle.xet_clean.proofs.single.clean_bytes.Goals as goal

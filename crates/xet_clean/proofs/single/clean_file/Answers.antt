@@ -4,9 +4,9 @@ use Rattle.std.specs.List.{AllByRecursion}
 use Rattle.xet_aggregate.specs.declared.metrics.DeduplicationMetrics.{DeduplicationMetrics}
 use Rattle.xet_cut.specs.Chunking.{chunking}
 use Rattle.xet_hash.specs.declared.error.StoreError.{StoreError}
-use Rattle.xet_store.specs.Cleaning.{Adds, EachTold, HasFile}
-use Rattle.xet_store.specs.Store.{plan_of}
-use Rattle.xet_store.specs.declared.info.XetFileInfo.{XetFileInfo}
+use Rattle.xet_store_disk.specs.Cleaning.{Adds, EachTold, HasFile}
+use Rattle.xet_store_disk.specs.Store.{plan_of}
+use Rattle.xet_store_disk.specs.declared.info.XetFileInfo.{XetFileInfo}
 use Rattle.xet_clean.specs.Cleaning.{Grows, HasReason, IsBounded, IsCleaned}
 use Rattle.xet_clean.specs.Policies.{info_by}
 use Rattle.xet_clean.specs.declared.info.Cleaned.{Cleaned}

@@ -4,7 +4,7 @@ use Rattle.xet_clean.specs.declared.cleaner.FinishedFile.{FinishedFile}
 use Rattle.xet_clean.specs.declared.info.Cleaned.{Cleaned}
 use Rattle.xet_clean.proofs.Looped.{taken_end}
 use Rattle.xet_clean.proofs.Turning.{added_of, end_ends, end_reads, end_reason, end_short, loop_begins_with, turn_goes_on, turn_stops}
-use Rattle.xet_steps.specs.theorems.Following.{follows_then}
+use Rattle.xet_store.specs.theorems.Following.{follows_then}
 use Rattle.xet_clean.proofs.single.clean_only.Goals as goal
 
 pub keep-requires-clause-working : goal.keep-requires-clause-working

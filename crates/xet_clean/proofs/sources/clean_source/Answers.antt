@@ -1,8 +1,8 @@
 use Rattle.std.proofs.Common.{◌∙◌, [], ℕ, List, Option, IfOk, true, sym, subst}
 use Rattle.std.proofs.lemmas.Result.{IfErr-weaker, IfOk-weaker, on_err_weaker}
-use Rattle.xet_steps.specs.Interface.{IsErrorSince}
-use Rattle.xet_steps.specs.Holders.{Follows, FollowsAsking}
-use Rattle.xet_steps.specs.theorems.Following.{asking_nothing, asking_then}
+use Rattle.xet_store.specs.Interface.{IsErrorSince}
+use Rattle.xet_store.specs.Holders.{Follows, FollowsAsking}
+use Rattle.xet_store.specs.theorems.Following.{asking_nothing, asking_then}
 use Rattle.xet_clean.specs.Planning.{IsFew, IsFinished}
 use Rattle.xet_clean.specs.Policies.{sha256_by}
 use Rattle.xet_clean.specs.Sources.{IsSourceError, Takes}

@@ -1,5 +1,5 @@
 use Rattle.std.proofs.Common.{◌+◌, ◌*◌, length, arith}
-use Rattle.xet_steps.specs.theorems.Following.{follows_nothing}
+use Rattle.xet_store.specs.theorems.Following.{follows_nothing}
 use Rattle.xet_clean.specs.theorems.Counting.{at_most_more, at_most_nothing}
 use Rattle.xet_clean.proofs.sources.keep.Goals as goal
 

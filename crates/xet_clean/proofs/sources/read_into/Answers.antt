@@ -1,7 +1,7 @@
 use Rattle.std.proofs.Common.{◌∙◌, ◌++◌, [], ℕ, ap, arith, length-append, refl, subst, sym}
 use Rattle.xet_base.specs.theorems.Exits.{exit_with}
 use Rattle.xet_cut.specs.declared.limits.LimitSettings.{LimitSettings}
-use Rattle.xet_steps.specs.theorems.Following.{asking_nothing, asking_then}
+use Rattle.xet_store.specs.theorems.Following.{asking_nothing, asking_then}
 use Rattle.xet_clean.specs.Errors.{IsCleanerError}
 use Rattle.xet_clean.specs.Sources.{IsSourceError}
 use Rattle.xet_clean.proofs.FileCalls.{same_limits}

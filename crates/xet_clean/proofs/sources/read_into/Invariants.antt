@@ -1,6 +1,6 @@
 use Rattle.std.proofs.Common.{◌≡◌, ℕ, ◌-◌, ◌≤◌, List, false}
 use Rattle.xet_clean.specs.Policies.{IfComputed}
-use Rattle.xet_steps.specs.Holders.{FollowsAsking}
+use Rattle.xet_store.specs.Holders.{FollowsAsking}
 use Rattle.xet_clean.specs.Cleaner.{IsCleaning}
 use Rattle.xet_clean.specs.Sources.{Takes}
 use Rattle.xet_clean.proofs.sources.read_into.Given as goal

@@ -1,7 +1,7 @@
 use Rattle.std.proofs.Common.{◌≡◌, ◌≤◌, [], length, true}
 use Rattle.std.proofs.lemmas.Result.{IfErr-weaker, IfOk-weaker}
 use Rattle.std.specs.List.{AllByRecursion}
-use Rattle.xet_store.specs.Cleaning.{EachTold}
+use Rattle.xet_store_disk.specs.Cleaning.{EachTold}
 use Rattle.xet_hash_files.specs.Hashing.{HasHashReason, hashed_info}
 use Rattle.xet_hash_files.specs.internal.Sources.{AreHashed, IsPartError}
 use Rattle.xet_hash_files.proofs.Joining.{all_read, all_short, has_reason, infos_told, later_all, ok_gives, taken_all, tell_all}

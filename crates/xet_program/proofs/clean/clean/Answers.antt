@@ -1,7 +1,7 @@
 use Rattle.std.proofs.Common.{◌∙◌, false, map, refl, string_bytes, subst, ap, arith}
 use Rattle.xet_cut.specs.declared.limits.LimitSettings.{LimitSettings}
-use Rattle.xet_store.specs.Opening.{IsOpened}
-use Rattle.xet_steps.specs.Recorded.{RecordedState}
+use Rattle.xet_store_disk.specs.Opening.{IsOpened}
+use Rattle.xet_store.specs.Recorded.{RecordedState}
 use Rattle.xet_program.specs.internal.Stops.{cleaning_store_causes}
 use Rattle.xet_program.proofs.Folder.{folder_cleaning, stop_refused, stops_cleaning}
 use Rattle.xet_program.specs.Tasks.{store_folder}

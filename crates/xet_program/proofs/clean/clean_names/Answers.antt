@@ -2,7 +2,7 @@ use Rattle.std.proofs.Common.{◌≡◌, ◌∙◌, ◌<◌, ℕ, true, List, An
 use Rattle.std.proofs.lemmas.List.{length-map, with_items_is}
 use Rattle.std.proofs.lemmas.Result.{IfErr-at_err, IfErr-weaker}
 use Rattle.xet_cut.specs.Limits.{AreInRange}
-use Rattle.xet_store.specs.theorems.Keeping.{keeps_nothing, keeps_then}
+use Rattle.xet_store_disk.specs.theorems.Keeping.{keeps_nothing, keeps_then}
 use Rattle.xet_program.specs.declared.ending.Stop.TheVariants as stop
 use Rattle.xet_program.specs.Answers.{AreNamed}
 use Rattle.xet_program.specs.internal.Stops.{IsStop, cleaning_causes, naming_causes, opening_causes}

@@ -1,7 +1,7 @@
 use Rattle.std.proofs.Common.{◌≡◌, ◌≤◌, ◌∙◌, ◌∷◌, [], List, ℕ, Err, IfErr, IfOk, arith, length, refl, subst, ap}
 use Rattle.std.proofs.lemmas.Result.{IfErr-at_err, IfErr-weaker, IfOk-at_ok}
 use Rattle.xet_cut.specs.Chunking.{chunking}
-use Rattle.xet_store.specs.theorems.Keeping.{keeps_then}
+use Rattle.xet_store_disk.specs.theorems.Keeping.{keeps_then}
 use Rattle.xet_program.specs.declared.ending.Stop.TheVariants as stop
 use Rattle.xet_program.specs.declared.make.ChunkCounts.{ChunkCounts}
 use Rattle.xet_program.specs.Making.{both_files, with_byte_inserted}

@@ -1,6 +1,6 @@
 use Rattle.std.proofs.Common.{◌∙◌, arith, false, refl, subst}
 use Rattle.xet_cut.specs.declared.limits.LimitSettings.{LimitSettings}
-use Rattle.xet_store.specs.Opening.{IsOpened}
+use Rattle.xet_store_disk.specs.Opening.{IsOpened}
 use Rattle.xet_program.specs.internal.Stops.{making_causes}
 use Rattle.xet_program.specs.Tasks.{store_folder}
 use Rattle.xet_program.proofs.Folder.{folder_making, never_seven, stop_refused, stops_making}

@@ -1,7 +1,7 @@
 use Rattle.std.proofs.Common.{◌≡◌, ◌≤◌, ◌∙◌, ◌∷◌, [], List, ℕ, IfErr, IfOk, OnOk, arith, length, subst, sym, ap}
 use Rattle.std.specs.Result.{IsOkAnd}
 use Rattle.xet_cut.specs.Chunking.{chunking}
-use Rattle.xet_store.specs.theorems.Keeping.{keeps_nothing}
+use Rattle.xet_store_disk.specs.theorems.Keeping.{keeps_nothing}
 use Rattle.xet_program.specs.declared.ending.Stop.TheVariants as stop
 use Rattle.xet_program.specs.declared.make.ChunkCounts.{ChunkCounts}
 use Rattle.xet_program.specs.Making.{with_byte_inserted}

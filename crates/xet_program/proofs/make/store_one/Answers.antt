@@ -2,7 +2,7 @@ use Rattle.std.proofs.Common.{◌≡◌, ◌∙◌, ◌∷◌, [], List, ℕ, Er
 use Rattle.std.proofs.lemmas.Result.{IfErr-at_err, IfOk-at_ok}
 use Rattle.std.specs.List.{AllByRecursion}
 use Rattle.xet_clean.specs.declared.info.Cleaned.{Cleaned}
-use Rattle.xet_store.specs.Store.{plan_of}
+use Rattle.xet_store_disk.specs.Store.{plan_of}
 use Rattle.xet_program.specs.declared.ending.Stop.TheVariants as stop
 use Rattle.xet_program.specs.internal.Cleaned.{AreCleaned}
 use Rattle.xet_program.specs.internal.Made.{AddsXorbs, AreCounted}

@@ -1,5 +1,5 @@
 use Rattle.std.proofs.Common.{◌∙◌, arith, refl}
-use Rattle.xet_store.specs.Opening.{contents_of}
+use Rattle.xet_store_disk.specs.Opening.{contents_of}
 use Rattle.xet_program.specs.internal.Stops.{storing_causes}
 use Rattle.xet_program.proofs.Folder.{folder_storing, stop_refused, stops_storing}
 use Rattle.xet_program.proofs.Listing.{contents_before, few_before, foreign_same, keeps_folder, keeps_listed, opens_before}

@@ -1,6 +1,6 @@
 use Rattle.std.proofs.Common.{◌≡◌, ◌∙◌, List, ℕ, subst, IfErr, IfOk, true}
 use Rattle.std.proofs.lemmas.Result.{IfErr-weaker}
-use Rattle.xet_store.specs.theorems.Keeping.{keeps_nothing}
+use Rattle.xet_store_disk.specs.theorems.Keeping.{keeps_nothing}
 use Rattle.xet_program.specs.internal.Cleaned.{AreCleaned}
 use Rattle.xet_program.specs.internal.Stops.{IsStop, cleaning_causes, session_causes}
 use Rattle.xet_program.proofs.Cleaned.{stop_of_files}

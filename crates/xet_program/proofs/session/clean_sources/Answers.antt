@@ -6,9 +6,9 @@ use Rattle.xet_clean.specs.Cleaning.{RecordsFile, files_in}
 use Rattle.xet_clean.specs.declared.policy.Sha256Policy.TheVariants.{Compute}
 use Rattle.xet_clean.specs.declared.info.Cleaned.{Cleaned}
 use Rattle.xet_history.specs.declared.entry.Entry.{Entry}
-use Rattle.xet_store.specs.Cleaning.{HasFile, chunkings}
-use Rattle.xet_store.specs.Separate.{Separate}
-use Rattle.xet_store.specs.Store.{plan_of}
+use Rattle.xet_store_disk.specs.Cleaning.{HasFile, chunkings}
+use Rattle.xet_store_disk.specs.Separate.{Separate}
+use Rattle.xet_store_disk.specs.Store.{plan_of}
 use Rattle.xet_workers.specs.Cleaning.{IsCleanedBy}
 use Rattle.xet_program.specs.internal.Stops.{IsStop, cleaning_causes}
 use Rattle.xet_program.proofs.Cleaned.{Reason, chosen_all, chunked_files, rose_of_reason, short_of_sources, since_is, stop_of_reason}

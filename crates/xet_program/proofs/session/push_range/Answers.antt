@@ -1,6 +1,6 @@
 use Rattle.std.proofs.Common.{◌≡◌, ◌∙◌, ◌-◌, ℕ, List, ◌++◌, ap, arith, refl, subst, sym}
 use Rattle.std.proofs.lemmas.Result.{on_ok_weaker}
-use Rattle.xet_store.specs.Ranges.{IsRange}
+use Rattle.xet_store_disk.specs.Ranges.{IsRange}
 use Rattle.xet_program.specs.Report.{bytes_line}
 use Rattle.xet_program.specs.internal.Steps.{IsLineRead, hash_at}
 use Rattle.xet_program.proofs.Cleaned.{hash_read}

@@ -1,5 +1,5 @@
 use Rattle.std.proofs.Common.{◌≡◌, ℕ, List, ◌++◌, take}
-use Rattle.xet_store.specs.Ranges.{IsUnchanged}
+use Rattle.xet_store_disk.specs.Ranges.{IsUnchanged}
 use Rattle.xet_program.specs.internal.Steps.{AreRead}
 use Rattle.xet_program.proofs.session.push_ranges.Given as goal
 

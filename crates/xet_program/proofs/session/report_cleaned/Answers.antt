@@ -1,5 +1,5 @@
 use Rattle.std.proofs.Common.{◌∙◌, ℕ, List, ◌++◌, ap}
-use Rattle.xet_store.specs.theorems.Keeping.{keeps_then}
+use Rattle.xet_store_disk.specs.theorems.Keeping.{keeps_then}
 use Rattle.xet_program.proofs.Making.{settled_of}
 use Rattle.xet_program.proofs.Reading.{keeps_unchanged, read_after}
 use Rattle.xet_program.proofs.session.report_cleaned.Goals as goal

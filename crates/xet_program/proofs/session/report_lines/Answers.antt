@@ -1,6 +1,6 @@
 use Rattle.std.proofs.Common.{◌<◌, ◌≤◌, All, IfOk, length, subst, sym}
 use Rattle.xet_cut.specs.Limits.{AreInRange}
-use Rattle.xet_store.specs.theorems.Keeping.{keeps_then}
+use Rattle.xet_store_disk.specs.theorems.Keeping.{keeps_then}
 use Rattle.xet_program.proofs.Settled.{AreSteps}
 use Rattle.xet_program.proofs.Reported.{bounds_of_cleaned, cause_all, lines_answer, stop_lines}
 use Rattle.xet_program.proofs.session.report_lines.Goals as goal

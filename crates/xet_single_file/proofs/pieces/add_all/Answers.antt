@@ -1,8 +1,8 @@
 use Rattle.std.proofs.Common.{IfErr, inr, subst, sym}
 use Rattle.std.proofs.lemmas.Result.{IfErr-weaker}
 use Rattle.xet_clean.specs.Errors.{IsCleanerError}
-use Rattle.xet_steps.specs.Interface.{IsErrorSince}
-use Rattle.xet_steps.specs.theorems.Following.{asking_nothing}
+use Rattle.xet_store.specs.Interface.{IsErrorSince}
+use Rattle.xet_store.specs.theorems.Following.{asking_nothing}
 use Rattle.xet_single_file.proofs.Piecewise.{few_before}
 use Rattle.xet_single_file.proofs.pieces.add_all.Goals as goal
 

@@ -1,5 +1,5 @@
 use Rattle.std.proofs.Common.{slice_range}
-use Rattle.xet_steps.specs.theorems.Following.{asking_nothing}
+use Rattle.xet_store.specs.theorems.Following.{asking_nothing}
 use Rattle.xet_single_file.proofs.Piecewise.{few_before}
 use Rattle.xet_single_file.proofs.pieces.add_piece.Goals as goal
 

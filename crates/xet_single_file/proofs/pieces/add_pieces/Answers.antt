@@ -6,8 +6,8 @@ use Rattle.xet_clean.specs.Cleaner.{IsCleaning}
 use Rattle.xet_clean.specs.Errors.{IsCleanerError}
 use Rattle.xet_clean.specs.Planning.{IsFew}
 use Rattle.xet_clean.specs.Policies.{HasBytesBy}
-use Rattle.xet_steps.specs.Interface.{IsErrorSince}
-use Rattle.xet_steps.specs.theorems.Following.{asking_nothing, asking_then}
+use Rattle.xet_store.specs.Interface.{IsErrorSince}
+use Rattle.xet_store.specs.theorems.Following.{asking_nothing, asking_then}
 use Rattle.xet_single_file.proofs.Piecewise.{few_of_whole, in_pieces, more_range, piece_error, whole_range}
 use Rattle.xet_single_file.proofs.pieces.add_pieces.Goals as goal
 

@@ -1,7 +1,7 @@
 use Rattle.std.proofs.Common.{◌≡◌, ◌<◌, ◌≤◌, ◌-◌, ◌++◌, ℕ, List, length, take}
 use Rattle.xet_clean.specs.Cleaner.{IsCleaning}
 use Rattle.xet_clean.specs.Policies.{HasBytesBy}
-use Rattle.xet_steps.specs.Holders.{FollowsAsking}
+use Rattle.xet_store.specs.Holders.{FollowsAsking}
 use Rattle.xet_single_file.proofs.pieces.add_pieces.Given as goal
 
 -- the pieces so far were added

@@ -1,6 +1,6 @@
 use Rattle.std.proofs.Common.{◌≡◌, ◌+◌, ◌≤◌, ◌++◌, Err, IfErr, IfOk, Ok, Some, length, map, vec_capacity, vec_len}
 use Rattle.std.specs.Vec.Iter.{into_iter_items, into_iter_len}
-use Rattle.xet_store.specs.Separate.{Among}
+use Rattle.xet_store_disk.specs.Separate.{Among}
 use Rattle.xet_workers.proofs.seat.leave_seats.Given as goal
 
 abbrev pub invariant-loop-seat : goal.invariant-loop-seat

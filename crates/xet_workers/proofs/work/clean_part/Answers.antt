@@ -6,7 +6,7 @@ use Rattle.xet_hash.specs.declared.error.StoreError.{StoreError}
 use Rattle.xet_hash.specs.declared.error.StoreError.TheVariants.{OutOfMemory}
 use Rattle.xet_locked_session.specs.Passes.{IsPassOf}
 use Rattle.xet_locked_session.specs.Passing.{passing_of}
-use Rattle.xet_steps.specs.Holders.{Holder}
+use Rattle.xet_store.specs.Holders.{Holder}
 use Rattle.xet_workers.specs.Workers.{HasPassed}
 use Rattle.xet_workers.proofs.Begun.{IsRefused, MayHavePassed, memory_before}
 use Rattle.xet_workers.proofs.Parts.{later_same, taken_same}

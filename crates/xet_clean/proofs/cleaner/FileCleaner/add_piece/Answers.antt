@@ -2,7 +2,7 @@ use Rattle.std.proofs.Common.{◌++◌, List, false, refl, sym, ap, subst, arith
 use Rattle.std.proofs.lemmas.Result.{on_err_weaker, on_ok_weaker}
 use Rattle.xet_cut.specs.Streams.{IsBlock}
 use Rattle.xet_cut.specs.declared.limits.LimitSettings.{LimitSettings}
-use Rattle.xet_steps.specs.theorems.Following.{asking_nothing}
+use Rattle.xet_store.specs.theorems.Following.{asking_nothing}
 use Rattle.xet_xorb_chunk.specs.declared.chunk.Chunk.{Chunk}
 use Rattle.xet_clean.specs.Cleaner.{IsCleaning}
 use Rattle.xet_clean.proofs.Cleaning.{cleaning_more, few_more, few_with, more_chunks, more_few, on_err, placed_by}

@@ -2,8 +2,8 @@ use Rattle.std.proofs.Common.{◌≡◌, ℕ, IfOk, sym, subst}
 use Rattle.std.proofs.lemmas.Result.{IfErr-weaker}
 use Rattle.xet_hash.specs.declared.error.StoreError.{StoreError}
 use Rattle.xet_hash.specs.declared.error.StoreError.TheVariants.{OutOfMemory}
-use Rattle.xet_steps.specs.Interface.{IsErrorSince}
-use Rattle.xet_steps.specs.Holders.{FollowsAsking}
+use Rattle.xet_store.specs.Interface.{IsErrorSince}
+use Rattle.xet_store.specs.Holders.{FollowsAsking}
 use Rattle.xet_clean.specs.Planning.{IsFew, IsFinished}
 use Rattle.xet_clean.proofs.Cleaning.{cleaning_bytes, on_err}
 use Rattle.xet_clean.proofs.Finishing.{planned_few}

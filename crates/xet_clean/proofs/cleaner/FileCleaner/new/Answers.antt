@@ -4,8 +4,8 @@ use Rattle.xet_cut.specs.Streams.{Splitting}
 use Rattle.xet_cut.specs.declared.limits.LimitSettings.{LimitSettings}
 use Rattle.xet_dedup.specs.Deduping.{IsDeduped}
 use Rattle.xet_file_plan.specs.Moves.{empty_plan}
-use Rattle.xet_steps.specs.Interface.{Stands}
-use Rattle.xet_steps.specs.Holders.{calls_of, core_at, lengths_in, xorb_limits}
+use Rattle.xet_store.specs.Interface.{Stands}
+use Rattle.xet_store.specs.Holders.{calls_of, core_at, lengths_in, xorb_limits}
 use Rattle.xet_clean.specs.Cleaner.{IsCleaning}
 use Rattle.xet_clean.proofs.Beginning.{cleaning_begins}
 use Rattle.xet_clean.proofs.cleaner.FileCleaner.new.Goals as goal

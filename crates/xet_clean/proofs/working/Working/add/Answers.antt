@@ -3,9 +3,9 @@ use Rattle.xet_aggregate.specs.Aggregate.{Aggregate}
 use Rattle.xet_aggregate.specs.declared.metrics.DeduplicationMetrics.{DeduplicationMetrics}
 use Rattle.xet_choices.specs.declared.choice.Choice.{Choice}
 use Rattle.xet_dedup.specs.Deduping.{metrics_of_both}
-use Rattle.xet_store.specs.declared.info.XetFileInfo.{XetFileInfo}
-use Rattle.xet_steps.specs.Holders.{Follows, Holder}
-use Rattle.xet_steps.specs.theorems.Following.{follows_nothing}
+use Rattle.xet_store_disk.specs.declared.info.XetFileInfo.{XetFileInfo}
+use Rattle.xet_store.specs.Holders.{Follows, Holder}
+use Rattle.xet_store.specs.theorems.Following.{follows_nothing}
 use Rattle.xet_clean.specs.Closing.{IsAtMost}
 use Rattle.xet_clean.specs.internal.Sums.{HasRoom}
 use Rattle.xet_clean.specs.Working.{IsWorking, Planned}

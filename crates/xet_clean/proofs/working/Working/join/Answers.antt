@@ -6,8 +6,8 @@ use Rattle.xet_cut.specs.declared.limits.LimitSettings.{LimitSettings}
 use Rattle.xet_dedup_queries.specs.Counting.{HasNext}
 use Rattle.xet_dedup_queries.specs.Registering.{IsDue}
 use Rattle.xet_hash.specs.declared.error.StoreError.TheVariants.{OutOfMemory}
-use Rattle.xet_steps.specs.Holders.{Follows, xorb_limits}
-use Rattle.xet_steps.specs.theorems.Following.{follows_nothing}
+use Rattle.xet_store.specs.Holders.{Follows, xorb_limits}
+use Rattle.xet_store.specs.theorems.Following.{follows_nothing}
 use Rattle.xet_xorb_chunk.specs.Chunks.{chunk_leaf}
 use Rattle.xet_clean.specs.Closing.{IsAtMost, IsUnclosed}
 use Rattle.xet_clean.proofs.Completing.{due_unless_fits, unclosed_after, unclosed_further, unclosed_nothing, unless_memory}

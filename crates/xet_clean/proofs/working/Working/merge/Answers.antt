@@ -2,7 +2,7 @@ use Rattle.std.proofs.Common.{ℕ, ◌+◌, ◌*◌, List, length, map, subst, s
 use Rattle.std.specs.List.{AllByRecursion}
 use Rattle.xet_base.specs.theorems.Exits.{exit_with}
 use Rattle.xet_dedup_queries.specs.Counting.{HasNext}
-use Rattle.xet_steps.specs.theorems.Following.{follows_nothing}
+use Rattle.xet_store.specs.theorems.Following.{follows_nothing}
 use Rattle.xet_xorb_chunk.specs.Chunks.{chunk_leaf}
 use Rattle.xet_clean.specs.Closing.{IsUnclosed}
 use Rattle.xet_clean.proofs.Completing.{unclosed_nothing}

@@ -1,5 +1,5 @@
 use Rattle.std.proofs.Common.{false, subst, sym}
-use Rattle.xet_steps.specs.Holders.{Holder}
+use Rattle.xet_store.specs.Holders.{Holder}
 use Rattle.xet_locked_session.specs.internal.Kept.{IsKept}
 use Rattle.xet_locked_session.proofs.Returned.{begins}
 use Rattle.xet_locked_session.proofs.passing.Passing.of.Goals as goal

@@ -2,14 +2,14 @@ use Rattle.std.proofs.Common.{◌≡◌, ◌⊎◌, inl, inr, ◌∙◌, ℕ, Li
 use Rattle.xet_history.specs.declared.entry.Entry.{Entry}
 use Rattle.xet_history.specs.declared.entry.StepKind.TheVariants as kind
 use Rattle.xet_history.specs.History.{complete_entries}
-use Rattle.xet_steps.specs.Stepping.{SawComplete, cut_to_complete}
+use Rattle.xet_store.specs.Stepping.{SawComplete, cut_to_complete}
 use Rattle.xet_shared_history.specs.Owned.{numbers_from}
-use Rattle.xet_steps.specs.Holders.{Holder}
-use Rattle.xet_steps.specs.Recorded.{RecordedState, core_of}
-use Rattle.xet_steps.specs.Steps.{Steps, fault_entries}
+use Rattle.xet_store.specs.Holders.{Holder}
+use Rattle.xet_store.specs.Recorded.{RecordedState, core_of}
+use Rattle.xet_store.specs.Steps.{Steps, fault_entries}
 use Rattle.xet_locked_session.specs.internal.Guarded.{HasFailed, HasStep}
 use Rattle.xet_locked_session.specs.Passes.{OtherFile, StepFailed, holder_of}
-use Rattle.xet_steps.specs.theorems.Joining.{steps_nothing}
+use Rattle.xet_store.specs.theorems.Joining.{steps_nothing}
 use Rattle.xet_locked_session.proofs.Cases.{if_err, if_ok}
 use Rattle.xet_locked_session.proofs.Failing.{complete_failed, other_file}
 use Rattle.xet_locked_session.proofs.Seeing.{saw_complete}

@@ -4,8 +4,8 @@ use Rattle.xet_history.specs.declared.entry.StepKind.TheVariants as kind
 use Rattle.xet_history.specs.History.{flush_entries}
 use Rattle.xet_locked_session.specs.Passes.{SawFlush}
 use Rattle.xet_shared_history.specs.Owned.{numbers_from}
-use Rattle.xet_steps.specs.Recorded.{core_of}
-use Rattle.xet_steps.specs.Steps.{fault_entries}
+use Rattle.xet_store.specs.Recorded.{core_of}
+use Rattle.xet_store.specs.Steps.{fault_entries}
 use Rattle.xet_locked_session.specs.Passes.{FlushFailed, holder_of}
 use Rattle.xet_locked_session.proofs.Cases.{if_err, if_ok}
 use Rattle.xet_locked_session.proofs.Failing.{flush_failed, flush_steps}

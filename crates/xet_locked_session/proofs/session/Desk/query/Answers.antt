@@ -2,11 +2,11 @@ use Rattle.std.proofs.Common.{◌≡◌, ◌∙◌, ℕ, List, ◌++◌, drop, l
 use Rattle.xet_history.specs.declared.entry.Entry.{Entry}
 use Rattle.xet_history.specs.declared.entry.StepKind.TheVariants as kind
 use Rattle.xet_history.specs.History.{query_entries}
-use Rattle.xet_steps.specs.Stepping.{SawQuery, no_cut}
+use Rattle.xet_store.specs.Stepping.{SawQuery, no_cut}
 use Rattle.xet_shared_history.specs.Owned.{numbers_from}
-use Rattle.xet_steps.specs.Holders.{Holder}
-use Rattle.xet_steps.specs.Recorded.{RecordedState}
-use Rattle.xet_steps.specs.Steps.{fault_entries}
+use Rattle.xet_store.specs.Holders.{Holder}
+use Rattle.xet_store.specs.Recorded.{RecordedState}
+use Rattle.xet_store.specs.Steps.{fault_entries}
 use Rattle.xet_locked_session.specs.internal.Guarded.{HasFailed, HasStep}
 use Rattle.xet_locked_session.specs.Passes.{StepFailed, holder_of}
 use Rattle.xet_locked_session.proofs.Cases.{if_err, if_ok}

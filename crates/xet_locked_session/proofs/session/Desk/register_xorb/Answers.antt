@@ -2,12 +2,12 @@ use Rattle.std.proofs.Common.{◌≡◌, ◌∙◌, ℕ, List, ◌++◌, drop, l
 use Rattle.xet_history.specs.declared.entry.Entry.{Entry}
 use Rattle.xet_history.specs.declared.entry.StepKind.TheVariants as kind
 use Rattle.xet_history.specs.History.{register_entries}
-use Rattle.xet_steps.specs.Stepping.{SawRegister, cut_to_register}
+use Rattle.xet_store.specs.Stepping.{SawRegister, cut_to_register}
 use Rattle.xet_xorb.specs.Raw.{raw_leaves}
 use Rattle.xet_shared_history.specs.Owned.{numbers_from}
-use Rattle.xet_steps.specs.Holders.{Holder}
-use Rattle.xet_steps.specs.Recorded.{RecordedState, core_of}
-use Rattle.xet_steps.specs.Steps.{fault_entries}
+use Rattle.xet_store.specs.Holders.{Holder}
+use Rattle.xet_store.specs.Recorded.{RecordedState, core_of}
+use Rattle.xet_store.specs.Steps.{fault_entries}
 use Rattle.xet_locked_session.specs.internal.Guarded.{HasFailed, HasStep}
 use Rattle.xet_locked_session.specs.Passes.{StepFailed, holder_of}
 use Rattle.xet_locked_session.proofs.Cases.{if_err, if_ok}

@@ -2,8 +2,8 @@ use Rattle.std.proofs.Common.{rules, ◌≡◌, ◌∙◌, Bool, ap, sym, subst}
 use Rattle.std.specs.Prelude.{◌&&◌}
 use Rattle.std.specs.Result.{is_err}
 use Rattle.xet_history.specs.declared.entry.StepKind.TheVariants as kind
-use Rattle.xet_steps.specs.Stepping.{no_cut}
-use Rattle.xet_steps.specs.Recorded.{RecordedState}
+use Rattle.xet_store.specs.Stepping.{no_cut}
+use Rattle.xet_store.specs.Recorded.{RecordedState}
 use Rattle.xet_locked_session.specs.Session.{IsSince}
 use Rattle.xet_locked_session.specs.internal.Guarded.{IsGuarded}
 use Rattle.xet_locked_session.proofs.Guarding.{guarded_step, nothing_failed}

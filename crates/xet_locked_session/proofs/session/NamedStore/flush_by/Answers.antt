@@ -2,7 +2,7 @@ use Rattle.std.proofs.Common.{◌≡◌, ◌+◌, IfOk, [], ap, arith, length, l
 use Rattle.xet_base.specs.theorems.Exits.{exit_with}
 use Rattle.xet_hash.specs.declared.error.StoreError.TheVariants.{OutOfMemory}
 use Rattle.xet_history.specs.declared.entry.StepKind.TheVariants as kind
-use Rattle.xet_steps.specs.Recorded.{RecordedState}
+use Rattle.xet_store.specs.Recorded.{RecordedState}
 use Rattle.xet_locked_session.specs.internal.Made.{Flushed, Grew}
 use Rattle.xet_locked_session.proofs.Made.{grew_nothing, grew_flush, flushed_of, nothing_refused}
 use Rattle.xet_locked_session.proofs.Since.{since_more}

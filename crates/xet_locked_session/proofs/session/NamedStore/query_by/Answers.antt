@@ -1,14 +1,14 @@
 use Rattle.std.proofs.Common.{◌≡◌, ◌+◌, IfOk, ap, arith, length, length-append, subst}
 use Rattle.xet_base.specs.theorems.Exits.{exit_with}
 use Rattle.xet_hash.specs.declared.error.StoreError.TheVariants.{OutOfMemory}
-use Rattle.xet_steps.specs.Recorded.{RecordedState}
+use Rattle.xet_store.specs.Recorded.{RecordedState}
 use Rattle.xet_locked_session.specs.internal.Made.{Grew, Queried}
 use Rattle.xet_locked_session.proofs.Made.{grew_nothing, grew_query, queried_of, nothing_asked}
 use Rattle.xet_locked_session.proofs.Since.{since_more}
 use Rattle.std.proofs.Common.{[], OnErr, refl}
 use Rattle.xet_codec.specs.theorems.Buffering.{on_err}
-use Rattle.xet_steps.specs.Changes.{ChangesFiles}
-use Rattle.xet_steps.specs.theorems.Changing.{changes_nothing, changes_unread}
+use Rattle.xet_store.specs.Changes.{ChangesFiles}
+use Rattle.xet_store.specs.theorems.Changing.{changes_nothing, changes_unread}
 use Rattle.xet_locked_session.proofs.session.NamedStore.query_by.Goals as goal
 
 pub returns-in_err-reserve-clause-refused : goal.returns-in_err-reserve-clause-refused

@@ -3,7 +3,7 @@ use Rattle.xet_base.specs.theorems.Exits.{exit_with}
 use Rattle.xet_hash.specs.declared.error.StoreError.TheVariants.{OutOfMemory}
 use Rattle.xet_history.specs.History.{register_cut}
 use Rattle.xet_history.specs.declared.entry.StepKind.TheVariants as kind
-use Rattle.xet_steps.specs.Recorded.{RecordedState, core_of}
+use Rattle.xet_store.specs.Recorded.{RecordedState, core_of}
 use Rattle.xet_xorb.specs.Raw.{raw_leaves}
 use Rattle.xet_locked_session.specs.internal.Made.{Grew, Registered}
 use Rattle.xet_locked_session.proofs.Made.{grew_nothing, grew_register, nothing_refused, registered_of}
@@ -11,8 +11,8 @@ use Rattle.xet_locked_session.proofs.Since.{since_more}
 use Rattle.std.proofs.Common.{[], OnErr, refl}
 use Rattle.xet_codec.specs.theorems.Buffering.{on_err}
 use Rattle.xet_history.specs.History.{register_entries}
-use Rattle.xet_steps.specs.Changes.{Tries}
-use Rattle.xet_steps.specs.theorems.Changing.{changes_nothing}
+use Rattle.xet_store.specs.Changes.{Tries}
+use Rattle.xet_store.specs.theorems.Changing.{changes_nothing}
 use Rattle.xet_locked_session.proofs.session.NamedStore.register_by.Goals as goal
 
 pub returns-in_err-reserve-clause-refused : goal.returns-in_err-reserve-clause-refused

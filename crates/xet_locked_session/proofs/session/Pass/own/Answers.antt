@@ -1,6 +1,6 @@
 use Rattle.std.proofs.Common.{◌∙◌, ◌++◌, ℕ, length, map, ap, sym}
 use Rattle.xet_history.specs.declared.entry.Entry.{Entry}
-use Rattle.xet_steps.specs.Holders.{Holder}
+use Rattle.xet_store.specs.Holders.{Holder}
 use Rattle.xet_locked_session.proofs.Entries.{numbers_at}
 use Rattle.xet_locked_session.proofs.session.Pass.own.Goals as goal
 

@@ -1,5 +1,5 @@
 use Rattle.std.proofs.Common.{◌∙◌, length, ap}
-use Rattle.xet_steps.specs.Holders.{Holder, seen}
+use Rattle.xet_store.specs.Holders.{Holder, seen}
 use Rattle.xet_locked_session.proofs.session.Pass.seen.Goals as goal
 
 pub returns : goal.returns

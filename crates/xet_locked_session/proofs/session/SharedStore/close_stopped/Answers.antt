@@ -4,9 +4,9 @@ use Rattle.std.proofs.lemmas.List.{append-nil, length-map}
 use mathlib.Core.List.{IsPrefix}
 use Rattle.xet_history.specs.declared.entry.Entry.{Entry}
 use Rattle.xet_shared_history.specs.Owned.{HasEachOnce}
-use Rattle.xet_steps.specs.Holders.{Holder, seen}
+use Rattle.xet_store.specs.Holders.{Holder, seen}
 use Rattle.xet_locked_session.specs.Passes.{IsSeen, NumbersDiffer, own_numbers}
-use Rattle.xet_steps.specs.Recorded.{RecordedState}
+use Rattle.xet_store.specs.Recorded.{RecordedState}
 use Rattle.xet_locked_session.specs.internal.Guarded.{IsGuarded}
 use Rattle.xet_locked_session.specs.internal.Returned.{IsReturned}
 use Rattle.xet_locked_session.proofs.Guarding.{guarded_few}

@@ -1,6 +1,6 @@
 use Rattle.std.proofs.Common.{◌≡◌, ◌+◌, ◌++◌, List, length}
 use Rattle.std.specs.List.{AllByRecursion}
-use Rattle.xet_steps.specs.Holders.{Holder}
+use Rattle.xet_store.specs.Holders.{Holder}
 use Rattle.xet_locked_session.specs.Passes.{own_numbers}
 use Rattle.xet_locked_session.specs.internal.Returned.{IsReturned}
 use Rattle.xet_locked_session.proofs.session.SharedStore.close_stopped.Given as goal

@@ -1,5 +1,5 @@
 use Rattle.std.proofs.Common.{false, subst, sym}
-use Rattle.xet_steps.specs.Recorded.{RecordedState}
+use Rattle.xet_store.specs.Recorded.{RecordedState}
 use Rattle.xet_locked_session.specs.Session.{IsSince}
 use Rattle.xet_locked_session.specs.internal.Guarded.{IsGuarded}
 use Rattle.xet_locked_session.proofs.Guarding.{guarded_first}

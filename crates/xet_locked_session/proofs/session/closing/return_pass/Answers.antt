@@ -3,7 +3,7 @@ use Rattle.std.proofs.lemmas.List.{length-map}
 use Rattle.xet_history.specs.declared.entry.Entry.{Entry}
 use Rattle.xet_shared_history.specs.Owned.{AreOwn}
 use Rattle.xet_shared_history.specs.theorems.Prefixes.{prefix_after}
-use Rattle.xet_steps.specs.Holders.{Holder}
+use Rattle.xet_store.specs.Holders.{Holder}
 use Rattle.xet_locked_session.specs.Passes.{entries_at}
 use Rattle.xet_locked_session.specs.internal.Returned.{IsReturned}
 use Rattle.xet_locked_session.proofs.Entries.{numbers_at, pass_seen}

@@ -1,5 +1,5 @@
 use Rattle.std.proofs.Common.{rules, ◌≡◌, ◌∙◌, ◌+◌, ◌++◌, ◌∷◌, [], List, ap, refl, sym, arith}
-use Rattle.xet_steps.specs.Holders.{Holder}
+use Rattle.xet_store.specs.Holders.{Holder}
 use Rattle.xet_locked_session.specs.Passes.{holder_of, new_passes}
 use Rattle.xet_locked_session.proofs.Returning.{new_passes_more}
 use Rattle.xet_locked_session.proofs.session.making.new_passes_of.Goals as goal
