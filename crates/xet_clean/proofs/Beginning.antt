@@ -44,6 +44,7 @@ begins_empty h range deduped = record {
   nexts = tt;
   lands = tt;
   few = omega arith;
+  own = tt;
 }
 
 pub cleaning_begins : (h : Holder) (whole : Bool) (plan : PlanState) (global : ℕ × ℕ) (splitting : Splitting) (count : ℕ) → whole ≡ true → plan ≡ empty_plan h.limits → global ≡ (0, 0)
@@ -77,4 +78,5 @@ nothing_cleaned h going = record {
   lands = tt;
   new = refl;
   bound = omega arith;
+  own = tt;
 }

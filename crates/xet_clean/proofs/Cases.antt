@@ -3,11 +3,11 @@ use Rattle.std.proofs.Common.{◌≡◌, ◌≢◌, ◌∙◌, inr, ℕ, ◌+◌
 use Rattle.std.proofs.lemmas.List.{append-nil, length-map, map-append, nil_from_length}
 use Rattle.std.proofs.lemmas.List.Sums.{sum_by-append}
 use Rattle.std.proofs.lemmas.Bool.{and_parts, leb-true}
-use Rattle.std.specs.List.{AllByRecursion}
+use Rattle.std.specs.List.{AllByRecursion, flat_map}
 use Rattle.xet_aggregate.specs.Aggregate.{Aggregate, IsAggregate, Pending, fits, merged, shifted, single}
 use Rattle.xet_aggregate.specs.theorems.Merging.{IsAggregate-fits}
 use Rattle.xet_aggregate.specs.declared.metrics.DeduplicationMetrics.{DeduplicationMetrics}
-use Rattle.xet_base.specs.theorems.Elements.{all_both, all_more, all_push}
+use Rattle.xet_base.specs.theorems.Elements.{all_back, all_both, all_more, all_prefix, all_push}
 use Rattle.xet_choices.specs.Calls.{Call, registered_chunks}
 use Rattle.xet_choices.specs.Calls.Call.{Registered}
 use Rattle.xet_choices.specs.Choices.{hashes_of, new_chunks}
@@ -20,9 +20,11 @@ use Rattle.xet_dedup.specs.Records.{file_record}
 use Rattle.xet_dedup.specs.theorems.Forms.{finalized_are_files, merged_are_files}
 use Rattle.xet_file_plan.specs.Placed.{ArePlaced}
 use Rattle.xet_file_plan.specs.theorems.Since.{calls_since}
+use Rattle.xet_dedup_queries.specs.Counting.{registered_leaves}
 use Rattle.xet_dedup_queries.specs.Registering.{max_chunk_len}
 use Rattle.xet_hash.specs.Merkle.{chunk_hash, xorb_hash}
 use Rattle.xet_shard_format.specs.declared.record.MDBFileInfo.{MDBFileInfo}
+use Rattle.xet_store_disk.specs.Separate.{Among}
 use Rattle.xet_store_disk.specs.declared.info.XetFileInfo.{XetFileInfo}
 use Rattle.xet_xorb_chunk.specs.Chunks.{chunk_leaf, total}
 use Rattle.xet_xorb_chunk.specs.declared.chunk.Chunk.{Chunk}
@@ -38,6 +40,8 @@ use Rattle.xet_clean.specs.theorems.InOrder.{recorded_none, recorded_one, record
 use Rattle.xet_clean.proofs.Joining.{IsKept}
 use Rattle.xet_clean.specs.theorems.Keeping.{any_last, limits_follow, seen_follows, waits_seen}
 use Rattle.xet_clean.proofs.Landing.{lands_last, lands_of, lands_then, later_last, part_itself, part_left, part_right, part_then}
+use Rattle.xet_clean.specs.theorems.Owning.{in_after, in_more, registers_then}
+use Rattle.xet_clean.specs.theorems.Rising.{flat_push}
 use Rattle.xet_clean.specs.theorems.Records.{records_filled, shifted_of, waits_among_more, waits_earlier, waits_later}
 use Rattle.xet_clean.specs.theorems.Sums.{no_leaves}
 use Rattle.xet_clean.specs.Policies.{sha256_by}
@@ -80,6 +84,39 @@ module _ (start first now : Holder) (files : List Planned) (infos : List XetFile
   within_here : IsWithin now.limits a.chunks
   within_here = subst (λ (s : LimitSettings). IsWithin s a.chunks) first_now w.within
 
+  -- ---- which chunks were registered
+
+  abbrev Of : List ℕ × ℕ → Type 0
+  Of = Among (flat_map (λ (g : Planned). g.plan.leaves) (files ++ f ∷ []))
+
+  abbrev all_old : List (List ℕ × ℕ)
+  all_old = flat_map (λ (g : Planned). g.plan.leaves) files
+
+  leaves_are : flat_map (λ (g : Planned). g.plan.leaves) (files ++ f ∷ []) ≡ flat_map (λ (g : Planned). g.plan.leaves) files ++ f.plan.leaves
+  leaves_are = flat_push (λ (g : Planned). g.plan.leaves) files f
+
+  old_own : AllByRecursion Of (registered_leaves (calls_in w.follows.own) ++ map chunk_leaf a.chunks)
+  old_own =
+      subst (λ (l : List (List ℕ × ℕ)). AllByRecursion (Among l) (registered_leaves (calls_in w.follows.own) ++ map chunk_leaf a.chunks)) (sym leaves_are)
+      (in_more all_old f.plan.leaves (registered_leaves (calls_in w.follows.own) ++ map chunk_leaf a.chunks) w.own)
+
+  its_own : AllByRecursion Of (registered_leaves planned.follows.calls ++ map chunk_leaf f.plan.block)
+  its_own =
+      subst (λ (l : List (List ℕ × ℕ)). AllByRecursion (Among l) (registered_leaves planned.follows.calls ++ map chunk_leaf f.plan.block)) (sym leaves_are)
+      (in_after all_old f.plan.leaves (registered_leaves planned.follows.calls ++ map chunk_leaf f.plan.block) planned.own)
+
+  old_calls : AllByRecursion Of (registered_leaves (calls_in w.follows.own))
+  old_calls = all_prefix Of (registered_leaves (calls_in w.follows.own)) (map chunk_leaf a.chunks) old_own
+
+  old_block : AllByRecursion Of (map chunk_leaf a.chunks)
+  old_block = all_back Of (registered_leaves (calls_in w.follows.own)) (map chunk_leaf a.chunks) old_own
+
+  its_calls : AllByRecursion Of (registered_leaves planned.follows.calls)
+  its_calls = all_prefix Of (registered_leaves planned.follows.calls) (map chunk_leaf f.plan.block) its_own
+
+  its_block : AllByRecursion Of (map chunk_leaf f.plan.block)
+  its_block = all_back Of (registered_leaves planned.follows.calls) (map chunk_leaf f.plan.block) its_own
+
   -- ---- a file of no bytes
 
   module _ (none : length f.bytes ≡ 0) where
@@ -109,6 +146,8 @@ module _ (start first now : Holder) (files : List Planned) (infos : List XetFile
       nothing = w.nothing;
       lands = subst (λ (cs : List Call). Lands (map chunk_leaf a.chunks) (calls_in w.follows.own ++ cs)) (sym no_calls)
           (subst (Lands (map chunk_leaf a.chunks)) (sym (append-nil (calls_in w.follows.own))) w.lands);
+      own = registers_then Of (calls_in w.follows.own) planned.follows.calls (map chunk_leaf a.chunks) old_calls
+          (all_both Of (registered_leaves planned.follows.calls) (map chunk_leaf a.chunks) its_calls old_block);
       counted = omega (arith, ap registered_chunks no_calls, no_new);
       bound = omega (arith, planned.few, no_chunks);
     }
@@ -194,6 +233,9 @@ module _ (start first now : Holder) (files : List Planned) (infos : List XetFile
             forms = merged_are_files a rest w.forms its_form;
             nothing = λ no. let none : length (a.files ++ its_pending ∷ []) ≡ 0 = ap length no in absurd (omega (arith, none, count));
             lands = subst (λ (l : List (List ℕ × ℕ)). Lands l (calls_in w.follows.own ++ planned.follows.calls)) (sym leaves_joined) lands_joined;
+            own = registers_then Of (calls_in w.follows.own) planned.follows.calls (map chunk_leaf (a.chunks ++ f.plan.block)) old_calls
+                (all_both Of (registered_leaves planned.follows.calls) (map chunk_leaf (a.chunks ++ f.plan.block)) its_calls
+                (subst (AllByRecursion Of) (sym leaves_joined) (all_both Of (map chunk_leaf a.chunks) (map chunk_leaf f.plan.block) old_block its_block)));
             counted = counted;
             bound = bound;
           }
@@ -268,6 +310,8 @@ module _ (start first now : Holder) (files : List Planned) (infos : List XetFile
         forms = its_form;
         nothing = λ no. absurd (omega (arith, ap length no));
         lands = lands_closed;
+        own = registers_then Of (calls_in w.follows.own) (planned.follows.calls ++ Registered leaves next ∷ []) next old_calls
+            (registers_then Of planned.follows.calls (Registered leaves next ∷ []) next its_calls (all_both Of (leaves ++ []) next (all_both Of leaves [] old_block tt) its_block));
         counted = counted_closed;
         bound = bound_closed;
       }

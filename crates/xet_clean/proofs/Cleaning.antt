@@ -17,11 +17,13 @@ use Rattle.xet_store.specs.Holders.{FollowsAsking, Holder, calls_of, core_at, le
 use Rattle.xet_xorb_chunk.specs.Chunks.{chunk_leaf, chunk_of}
 use Rattle.xet_xorb_chunk.specs.declared.chunk.Chunk.{Chunk}
 use Rattle.xet_clean.specs.Files.{leaves_in}
-use Rattle.xet_clean.specs.Planning.{IsFew, IsPlanned, IsWithin}
+use Rattle.xet_store_disk.specs.Separate.{Among}
+use Rattle.xet_clean.specs.Planning.{IsFew, IsPlanned, IsWithin, RegistersOnly}
 use Rattle.xet_clean.specs.Cleaner.{IsBatchOf, IsCleaning, IsCleaningBytes, StopsInBatch}
-use Rattle.xet_clean.proofs.FileCalls.{HasCalls, calls_few, calls_more, few_still, few_stopped, same_limits}
+use Rattle.xet_clean.specs.theorems.Owning.{in_itself}
+use Rattle.xet_clean.proofs.FileCalls.{HasCalls, calls_few, calls_more, few_still, few_stopped, only_still, only_stopped, same_limits}
 use Rattle.xet_clean.proofs.Blocks.{plan_within}
-use Rattle.xet_clean.proofs.Splitting.{Leaf, few_leaves, leaves-append, leaves_long, leaves_short, left_one, made_leaves, split_chunks, split_count, split_long, split_more, split_total}
+use Rattle.xet_clean.proofs.Splitting.{Leaf, few_leaves, leaves-append, leaves_long, leaves_short, left_one, made_leaves, split_chunks, split_count, split_in, split_long, split_more, split_total}
 
 -- ---- a batch
 
@@ -87,6 +89,7 @@ module _ (start old : Holder) (whole : Bool) (plan : PlanState) (global : ℕ ×
     nexts = c.nexts;
     lands = c.lands;
     few = c.few;
+    own = c.own;
   }
 
   has_calls : HasCalls start old plan.leaves (map chunk_leaf plan.block)
@@ -97,6 +100,7 @@ module _ (start old : Holder) (whole : Bool) (plan : PlanState) (global : ℕ ×
     nexts = c.nexts;
     lands = c.lands;
     few = omega (arith, c.few, length-map plan.block chunk_leaf);
+    own = c.own;
   }
 
   -- Its entries are few, also if there are more bytes.
@@ -108,17 +112,29 @@ module _ (start old : Holder) (whole : Bool) (plan : PlanState) (global : ℕ ×
   pub few_here : IsFew start old bytes
   few_here = subst (IsFew start old) (append-nil bytes) (few_with [])
 
+  -- The chunks that it registered are its own, also if there are more bytes.
+  pub only_with : (rest : List ℕ) → RegistersOnly start old (bytes ++ rest)
+  only_with rest =
+      only_still start old plan.leaves (map chunk_leaf plan.block) (bytes ++ rest) has_calls
+      (subst (AllByRecursion (Among (leaves_in old.limits (bytes ++ rest)))) (sym c.leaves) (split_in old.limits bytes c.parts splitting.buffered rest c.split))
+
+  pub only_here : RegistersOnly start old bytes
+  only_here = subst (RegistersOnly start old) (append-nil bytes) (only_with [])
+
   -- of the leaves of all chunks so far
   calls_after : (now : Holder) (is_whole : Bool) (none : ℕ × ℕ) (q : PlanState) (chunks : List Chunk) → HasPlaced start old now is_whole none plan q chunks → HasCalls start now q.leaves (map chunk_leaf q.block)
   calls_after now is_whole none q chunks placed =
       subst (λ (l : List Leaf). HasCalls start now l (map chunk_leaf q.block)) (sym placed.leaves)
       (calls_more start old now plan.leaves (map chunk_leaf chunks) (map chunk_leaf plan.block) (map chunk_leaf q.block) has_calls placed.follows placed.passed placed.batch)
 
-  few_after : (now : Holder) (chunks : List Chunk) (all : List ℕ) → FollowsAsking old now → StopsInBatch (map chunk_leaf chunks) (length plan.block) old now
+  few_after : (now : Holder) (chunks : List Chunk) (all : List ℕ) → FollowsAsking old now → StopsInBatch (map chunk_leaf chunks) (map chunk_leaf plan.block) old now
       → length plan.leaves + length (map chunk_leaf chunks) ≤ length (leaves_in old.limits all) → IsFew start now all
   few_after now chunks all f stops within =
-      few_stopped start old now plan.leaves (map chunk_leaf chunks) (map chunk_leaf plan.block) all has_calls f
-      (subst (λ (n : ℕ). StopsInBatch (map chunk_leaf chunks) n old now) (sym (length-map plan.block chunk_leaf)) stops) within
+      few_stopped start old now plan.leaves (map chunk_leaf chunks) (map chunk_leaf plan.block) all has_calls f stops within
+
+  only_after : (now : Holder) (chunks : List Chunk) (all : List ℕ) → FollowsAsking old now → StopsInBatch (map chunk_leaf chunks) (map chunk_leaf plan.block) old now
+      → AllByRecursion (Among (leaves_in old.limits all)) (plan.leaves ++ map chunk_leaf chunks) → RegistersOnly start now all
+  only_after now chunks all f stops within = only_stopped start old now plan.leaves (map chunk_leaf chunks) (map chunk_leaf plan.block) all has_calls f stops within
 
   -- ---- the next bytes
 
@@ -189,14 +205,20 @@ module _ (start old : Holder) (whole : Bool) (plan : PlanState) (global : ℕ ×
           nexts = calls.nexts;
           lands = calls.lands;
           few = omega (arith, calls.few, length-map q.block chunk_leaf);
+          own = calls.own;
         }
 
     -- If they cannot be placed, the entries are few.
-    pub few_more : (now : Holder) → FollowsAsking old now → StopsInBatch (map chunk_leaf chunks) (length plan.block) old now → IsFew start now (bytes ++ new)
+    pub few_more : (now : Holder) → FollowsAsking old now → StopsInBatch (map chunk_leaf chunks) (map chunk_leaf plan.block) old now → IsFew start now (bytes ++ new)
     few_more now f stops =
         let within : length (leaves_of more) ≤ length (leaves_in old.limits (bytes ++ new)) =
         subst (λ (t : List ℕ). length (leaves_of more) ≤ length (leaves_of (chunking old.limits t))) (append-nil (bytes ++ new)) (split_count old.limits (bytes ++ new) more buffered [] split_after) in
         few_after now chunks (bytes ++ new) f stops (omega (arith, within, ap length leaves_after, length-append plan.leaves (map chunk_leaf chunks)))
+
+    pub only_more : (now : Holder) → FollowsAsking old now → StopsInBatch (map chunk_leaf chunks) (map chunk_leaf plan.block) old now → (rest : List ℕ) → RegistersOnly start now ((bytes ++ new) ++ rest)
+    only_more now f stops rest =
+        only_after now chunks ((bytes ++ new) ++ rest) f stops
+        (subst (AllByRecursion (Among (leaves_in old.limits ((bytes ++ new) ++ rest)))) (sym leaves_after) (split_in old.limits (bytes ++ new) more buffered rest split_after))
 
   -- ---- the end
 
@@ -256,8 +278,12 @@ module _ (start old : Holder) (whole : Bool) (plan : PlanState) (global : ℕ ×
           nexts = calls.nexts;
           lands = calls.lands;
           few = omega (arith, calls_few start now q.leaves (map chunk_leaf q.block) calls, length-map q.block chunk_leaf);
+          own = calls.own;
         }
 
     -- If it cannot be placed, the entries are few.
-    pub few_last : (now : Holder) → FollowsAsking old now → StopsInBatch (map chunk_leaf chunks) (length plan.block) old now → IsFew start now bytes
+    pub few_last : (now : Holder) → FollowsAsking old now → StopsInBatch (map chunk_leaf chunks) (map chunk_leaf plan.block) old now → IsFew start now bytes
     few_last now f stops = few_after now chunks bytes f stops (omega (arith, ap length all_leaves, length-append plan.leaves (map chunk_leaf chunks)))
+
+    pub only_last : (now : Holder) → FollowsAsking old now → StopsInBatch (map chunk_leaf chunks) (map chunk_leaf plan.block) old now → RegistersOnly start now bytes
+    only_last now f stops = only_after now chunks bytes f stops (subst (AllByRecursion (Among (leaves_in old.limits bytes))) (sym all_leaves) (in_itself (leaves_in old.limits bytes)))

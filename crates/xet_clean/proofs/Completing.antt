@@ -8,7 +8,6 @@ use Rattle.std.specs.Prelude.{Err, IfErr, IsOkUnless, Ok, Result, nat_le}
 use Rattle.xet_aggregate.specs.Aggregate.{Aggregate, Pending, filled, finished_file, fits}
 use Rattle.xet_cut.specs.declared.limits.LimitSettings.{LimitSettings}
 use Rattle.xet_dedup.specs.theorems.Forms.{filled_is_file}
-use Rattle.xet_dedup_queries.specs.Counting.{HasNext}
 use Rattle.xet_dedup_queries.specs.Registering.{IsDue, IsNewXorb}
 use Rattle.xet_file_plan.specs.theorems.Closing.{raw_leaves_of}
 use Rattle.xet_hash.specs.Merkle.{total_len, xorb_hash}
@@ -29,7 +28,7 @@ use Rattle.xet_xorb.specs.declared.raw.RawXorbData.{RawXorbData}
 use Rattle.xet_xorb_chunk.specs.Chunks.{chunk_leaf, total}
 use Rattle.xet_xorb_chunk.specs.declared.chunk.Chunk.{Chunk}
 use Rattle.xet_clean.specs.Planning.{IsWithin}
-use Rattle.xet_clean.specs.Closing.{Closes, Completes, HaveForm, IsAtMost, IsClosingError, IsUnclosed, NoCalls, Records, RecordsFirst, RegistersAtMost, RegistersChunks, filled_files}
+use Rattle.xet_clean.specs.Closing.{Closes, Completes, HaveForm, IsAtMost, IsClosingError, IsUnclosed, NoCalls, Records, RecordsFirst, RegistersAtMost, RegistersChunks, RegistersFull, filled_files}
 use Rattle.xet_clean.specs.theorems.Adding.{Adds, adds_all, adds_completed, adds_registered, calls_added, calls_both, calls_error, calls_nothing, first_all, first_none, first_then, first_weaker, records_error, records_nothing, records_added, records_then, register_cut_calls, register_cut_none}
 use Rattle.xet_clean.specs.theorems.Closing.{IsRefusal, closing_earlier, closing_more, closing_refused, error_since, refused_at_most, refused_calls, refused_records}
 use Rattle.xet_clean.specs.theorems.Nexts.{further_nexts}
@@ -322,9 +321,9 @@ pub next_some : (s : LimitSettings) (a b : Aggregate) → fits s a b ≡ false �
 next_some s a b e first second is = omega (arith, ap length is, length-map b.chunks chunk_leaf, (both_some s a b e first second).1)
 
 pub unclosed_further : (s : LimitSettings) (full a b : Aggregate) (given : List (List ℕ × ℕ)) (old new : Holder) (e : StoreError) → full ≡ a → given ≡ map chunk_leaf b.chunks → fits s a b ≡ false → IsWithin s a.chunks → IsWithin s b.chunks
-    → IsUnclosed (RegistersAtMost full given) full given old new e → IsUnclosed (AllByRecursion HasNext) a (map chunk_leaf b.chunks) old new e
+    → IsUnclosed (RegistersAtMost full given) full given old new e → IsUnclosed (RegistersFull a (map chunk_leaf b.chunks)) a (map chunk_leaf b.chunks) old new e
 unclosed_further s full a b given old new e is_full is_given unfits first second u =
     let next : List (List ℕ × ℕ) = map chunk_leaf b.chunks in
-    unclosed_weaker (RegistersAtMost a next) (AllByRecursion HasNext) a next old new e (further_nexts a next (next_some s a b unfits first second))
+    unclosed_weaker (RegistersAtMost a next) (RegistersFull a next) a next old new e (λ calls is. (is, further_nexts a next (next_some s a b unfits first second) calls is))
     (subst (λ (l : List (List ℕ × ℕ)). IsUnclosed (RegistersAtMost a l) a l old new e) is_given
     (subst (λ (x : Aggregate). IsUnclosed (RegistersAtMost x given) x given old new e) is_full u))

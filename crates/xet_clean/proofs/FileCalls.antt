@@ -2,18 +2,20 @@
 use Rattle.std.proofs.Common.{◌≡◌, ◌∙◌, ℕ, ◌+◌, ◌*◌, ◌≤◌, Bool, true, false, List, ◌++◌, append_assoc, length, sym, ap, subst, if◌then◌else◌, arith, length-append}
 use Rattle.std.specs.List.{AllByRecursion}
 use Rattle.std.proofs.lemmas.List.{append_cancel_left}
-use Rattle.xet_base.specs.theorems.Elements.{all_both}
+use Rattle.xet_base.specs.theorems.Elements.{all_back, all_both, all_prefix}
 use Rattle.xet_choices.specs.Calls.{Call, queries_of}
 use Rattle.xet_choices.specs.theorems.Calls.{queries_of-append}
 use Rattle.xet_cut.specs.declared.limits.LimitSettings.{LimitSettings}
-use Rattle.xet_dedup_queries.specs.Counting.{HasNext, LandsIn, entries_at_most}
+use Rattle.xet_dedup_queries.specs.Counting.{HasNext, LandsIn, entries_at_most, registered_leaves}
 use Rattle.xet_dedup_queries.specs.theorems.Counting.{entries_at_most-append, lands_in-append}
 use Rattle.xet_store.specs.Holders.{Follows, FollowsAsking, Holder, calls_in, calls_of}
 use Rattle.xet_store.specs.theorems.Following.{asking_then}
 use Rattle.xet_clean.specs.Files.{leaves_in}
-use Rattle.xet_clean.specs.Planning.{IsFew}
+use Rattle.xet_store_disk.specs.Separate.{Among}
+use Rattle.xet_clean.specs.Planning.{IsFew, RegistersOnly}
 use Rattle.xet_clean.specs.Cleaner.{IsBatchOf, StopsInBatch}
 use Rattle.xet_clean.specs.theorems.Adding.{asking_calls, calls_both}
+use Rattle.xet_clean.specs.theorems.Owning.{in_after, in_itself, in_more, in_of, registers_both, registers_then}
 
 -- ---- what is seen
 
@@ -32,7 +34,8 @@ same_calls old new f calls added = append_cancel_left (calls_of old) f.calls cal
 -- ---- calls
 
 -- The calls of a file of these leaves so far, whose open block has these leaves. No step failed. There was at most one query
--- for each leaf, each registration has the chunk that did not fit, and the entries are few.
+-- for each leaf, each registration has the chunk that did not fit, and the entries are few. The leaves that were registered, and
+-- those of the block, are among these.
 pub record HasCalls (start now : Holder) (leaves block : List (List ℕ × ℕ)) : Type 0 where
   pub follows : FollowsAsking start now
   pub passed : now.stopped ≡ start.stopped
@@ -40,6 +43,12 @@ pub record HasCalls (start now : Holder) (leaves block : List (List ℕ × ℕ))
   pub nexts : AllByRecursion HasNext follows.calls
   pub lands : LandsIn block follows.calls
   pub few : entries_at_most follows.calls + 2 * length block ≤ queries_of follows.calls + 2 * length leaves
+  pub own : AllByRecursion (Among leaves) (registered_leaves follows.calls ++ block)
+
+-- the open block and one batch more
+batch_in : (start now : Holder) (leaves more block : List (List ℕ × ℕ)) → HasCalls start now leaves block → AllByRecursion (Among (leaves ++ more)) (block ++ more)
+batch_in start now leaves more block c =
+    all_both (Among (leaves ++ more)) block more (in_more leaves more block (all_back (Among leaves) (registered_leaves c.follows.calls) block c.own)) (in_after leaves more more (in_itself more))
 
 -- one batch more
 pub calls_more : (start old new : Holder) (leaves more before after : List (List ℕ × ℕ)) → HasCalls start old leaves before → FollowsAsking old new → new.stopped ≡ old.stopped → IsBatchOf more before after old new
@@ -59,6 +68,10 @@ calls_more start old new leaves more before after c f passed b =
       nexts = subst (AllByRecursion HasNext) (sym are) (all_both HasNext first b.calls c.nexts b.nexts);
       lands = subst (LandsIn after) (sym are) (lands_in-append first b.calls before after c.lands b.lands b.opens);
       few = omega (arith, queries, entries, both, c.few, b.few);
+      own = subst (λ (cs : List Call). AllByRecursion (Among (leaves ++ more)) (registered_leaves cs ++ after)) (sym are)
+          (registers_then (Among (leaves ++ more)) first b.calls after
+          (in_more leaves more (registered_leaves first) (all_prefix (Among leaves) (registered_leaves first) before c.own))
+          (in_of (before ++ more) (leaves ++ more) (registered_leaves b.calls ++ after) (batch_in start old leaves more before c) b.own));
     }
 
 -- ---- entries
@@ -82,7 +95,7 @@ few_still start now leaves block bytes c count = record {
 }
 
 -- a batch that was not placed
-pub few_stopped : (start old new : Holder) (leaves more block : List (List ℕ × ℕ)) (bytes : List ℕ) → HasCalls start old leaves block → FollowsAsking old new → StopsInBatch more (length block) old new
+pub few_stopped : (start old new : Holder) (leaves more block : List (List ℕ × ℕ)) (bytes : List ℕ) → HasCalls start old leaves block → FollowsAsking old new → StopsInBatch more block old new
     → length leaves + length more ≤ length (leaves_in old.limits bytes) → IsFew start new bytes
 few_stopped start old new leaves more block bytes c f s count =
     let follows : FollowsAsking start new = asking_then start old new c.follows f in
@@ -103,4 +116,36 @@ few_stopped start old new leaves more block bytes c f s count =
             count,
             ap (λ (l : LimitSettings). length (leaves_in l bytes)) (same_limits old new s.follows),
           );
+    }
+
+-- ---- which chunks were registered
+
+-- no batch more
+pub only_still : (start now : Holder) (leaves block : List (List ℕ × ℕ)) (bytes : List ℕ) → HasCalls start now leaves block → AllByRecursion (Among (leaves_in now.limits bytes)) leaves → RegistersOnly start now bytes
+only_still start now leaves block bytes c within = record {
+  follows = c.follows.follows;
+  are = subst (λ (cs : List Call). AllByRecursion (Among (leaves_in now.limits bytes)) (registered_leaves cs)) (sym (asking_calls start now c.follows))
+      (in_of leaves (leaves_in now.limits bytes) (registered_leaves c.follows.calls) within (all_prefix (Among leaves) (registered_leaves c.follows.calls) block c.own));
+}
+
+-- a batch that was not placed
+pub only_stopped : (start old new : Holder) (leaves more block : List (List ℕ × ℕ)) (bytes : List ℕ) → HasCalls start old leaves block → FollowsAsking old new → StopsInBatch more block old new
+    → AllByRecursion (Among (leaves_in old.limits bytes)) (leaves ++ more) → RegistersOnly start new bytes
+only_stopped start old new leaves more block bytes c f s within =
+    let follows : FollowsAsking start new = asking_then start old new c.follows f in
+    let first : List Call = calls_in c.follows.follows.own in
+    let calls : calls_in follows.follows.own ≡ first ++ calls_in s.follows.own = calls_both start old new c.follows.follows s.follows follows.follows in
+    let all : List (List ℕ × ℕ) = leaves_in new.limits bytes in
+    let here : AllByRecursion (Among (leaves_in new.limits bytes)) (leaves ++ more) =
+    subst (λ (l : LimitSettings). AllByRecursion (Among (leaves_in l bytes)) (leaves ++ more)) (sym (same_limits old new s.follows)) within in
+    let before : AllByRecursion (Among (leaves_in new.limits bytes)) (registered_leaves first) =
+    subst (λ (cs : List Call). AllByRecursion (Among (leaves_in new.limits bytes)) (registered_leaves cs)) (sym (asking_calls start old c.follows))
+    (in_of leaves all (registered_leaves c.follows.calls) (all_prefix (Among all) leaves more here) (all_prefix (Among leaves) (registered_leaves c.follows.calls) block c.own)) in
+    let after : AllByRecursion (Among (leaves_in new.limits bytes)) (registered_leaves (calls_in s.follows.own)) =
+    in_of (leaves ++ more) all (registered_leaves (calls_in s.follows.own)) here
+    (in_of (block ++ more) (leaves ++ more) (registered_leaves (calls_in s.follows.own)) (batch_in start old leaves more block c) s.own) in
+    record {
+      follows = follows.follows;
+      are = subst (λ (cs : List Call). AllByRecursion (Among (leaves_in new.limits bytes)) (registered_leaves cs)) (sym calls)
+          (registers_both (Among (leaves_in new.limits bytes)) first (calls_in s.follows.own) before after);
     }

@@ -1,5 +1,5 @@
 -- A file whose deduplication has ended.
-use Rattle.std.proofs.Common.{◌≡◌, ◌∙◌, ℕ, List, Option, length, sym, ap, subst, arith}
+use Rattle.std.proofs.Common.{◌≡◌, ◌∙◌, ℕ, List, Option, length, map, sym, ap, subst, arith}
 use Rattle.std.specs.List.{AllByRecursion}
 use Rattle.xet_aggregate.specs.Aggregate.{Aggregate, IsAggregate, single}
 use Rattle.xet_aggregate.specs.declared.metrics.DeduplicationMetrics.{DeduplicationMetrics}
@@ -7,13 +7,17 @@ use Rattle.xet_choices.specs.declared.choice.Choice.{Choice}
 use Rattle.xet_cut.specs.declared.limits.LimitSettings.{LimitSettings}
 use Rattle.xet_dedup.specs.Deduping.{metrics_of, open_indices}
 use Rattle.xet_dedup.specs.Records.{file_record}
-use Rattle.xet_dedup_queries.specs.Counting.{HasNext}
+use Rattle.xet_base.specs.theorems.Elements.{all_prefix}
+use Rattle.xet_choices.specs.Calls.{Call}
+use Rattle.xet_dedup_queries.specs.Counting.{HasNext, registered_leaves}
 use Rattle.xet_file_plan.specs.Moves.{PlanState}
 use Rattle.xet_hash.specs.Merkle.{file_hash}
 use Rattle.xet_store_disk.specs.declared.info.XetFileInfo.{XetFileInfo}
 use Rattle.xet_store.specs.Holders.{Holder}
 use Rattle.xet_clean.specs.Files.{leaves_in}
-use Rattle.xet_clean.specs.Planning.{IsFew, IsFinished, IsPlanned}
+use Rattle.xet_store_disk.specs.Separate.{Among}
+use Rattle.xet_xorb_chunk.specs.Chunks.{chunk_leaf}
+use Rattle.xet_clean.specs.Planning.{IsFew, IsFinished, IsPlanned, RegistersOnly}
 use Rattle.xet_clean.specs.Policies.{info_with}
 use Rattle.xet_clean.specs.theorems.Adding.{asking_calls}
 
@@ -45,4 +49,12 @@ planned_few start now bytes plan p = record {
   follows = p.follows;
   nexts = subst (AllByRecursion HasNext) (sym (asking_calls start now p.follows)) p.nexts;
   few = omega (arith, p.few, ap length p.leaves);
+}
+
+-- and the chunks that it registered are its own
+pub planned_only : (start now : Holder) (bytes : List ℕ) (plan : PlanState) → IsPlanned start now bytes plan → RegistersOnly start now bytes
+planned_only start now bytes plan p = record {
+  follows = p.follows.follows;
+  are = subst (λ (cs : List Call). AllByRecursion (Among (leaves_in now.limits bytes)) (registered_leaves cs)) (sym (asking_calls start now p.follows))
+      (subst (λ (ls : List (List ℕ × ℕ)). AllByRecursion (Among ls) (registered_leaves p.follows.calls)) p.leaves (all_prefix (Among plan.leaves) (registered_leaves p.follows.calls) (map chunk_leaf plan.block) p.own));
 }

@@ -2,7 +2,7 @@
 use Rattle.std.proofs.Common.{◌≡◌, ◌∙◌, ℕ, ◌+◌, ◌*◌, ◌≤◌, List, [], ◌∷◌, ◌++◌, length, map, sym, ap, subst, append_assoc, length-append, arith}
 use Rattle.std.proofs.lemmas.List.{length-map, map-append}
 use Rattle.std.proofs.lemmas.List.Sums.{sum_by_push}
-use Rattle.std.specs.List.{AllByRecursion}
+use Rattle.std.specs.List.{AllByRecursion, flat_map}
 use Rattle.xet_aggregate.specs.Aggregate.{Aggregate, IsAggregate}
 use Rattle.xet_aggregate.specs.declared.metrics.DeduplicationMetrics.{DeduplicationMetrics}
 use Rattle.xet_base.specs.theorems.Elements.{all_more, all_push}
@@ -11,7 +11,9 @@ use Rattle.xet_choices.specs.Choices.{new_chunks}
 use Rattle.xet_choices.specs.declared.choice.Choice.{Choice}
 use Rattle.xet_choices.specs.theorems.Calls.{registered_chunks-append}
 use Rattle.xet_dedup.specs.Deduping.{metrics_of, metrics_of_both}
+use Rattle.xet_dedup_queries.specs.Counting.{registered_leaves}
 use Rattle.xet_shard_format.specs.declared.record.MDBFileInfo.{MDBFileInfo}
+use Rattle.xet_store_disk.specs.Separate.{Among}
 use Rattle.xet_store_disk.specs.declared.info.XetFileInfo.{XetFileInfo}
 use Rattle.xet_xorb_chunk.specs.Chunks.{chunk_leaf}
 use Rattle.xet_store.specs.Holders.{Follows, Holder, calls_in}
@@ -43,6 +45,7 @@ pub record IsKept (first new : Holder) (files : List Planned) (a : Aggregate) (f
   pub forms : HaveForm joined.files
   pub nothing : joined.files ≡ [] → joined.chunks ≡ []
   pub lands : Lands (map chunk_leaf joined.chunks) (before ++ calls)
+  pub own : AllByRecursion (Among (flat_map (λ g. g.plan.leaves) (files ++ f ∷ []))) (registered_leaves (before ++ calls) ++ map chunk_leaf joined.chunks)
   pub counted : registered_chunks calls + length joined.chunks ≡ length a.chunks + new_chunks f.plan.choices
   pub bound : most + (2 * length joined.chunks + 2 * length joined.files) ≤ 2 * length a.chunks + 2 * length a.files + 3 * length f.plan.leaves + 2
 
@@ -113,4 +116,5 @@ module _ (start first now new : Holder) (files : List Planned) (infos : List Xet
         lands = subst (Lands (map chunk_leaf joined.chunks)) (sym calls_are) k.lands;
         new = omega (arith, regs, w.new, k.counted, sum_by_push (λ (g : Planned). new_chunks g.plan.choices) files f);
         bound = omega (arith, length-append w.follows.own k.adds.follows.own, k.adds.few, w.bound, k.bound, count, sum_by_push (λ (g : Planned). length g.plan.leaves) files f);
+        own = subst (λ (cs : List Call). AllByRecursion (Among (flat_map (λ (g : Planned). g.plan.leaves) (files ++ f ∷ []))) (registered_leaves cs ++ map chunk_leaf joined.chunks)) (sym calls_are) k.own;
       }

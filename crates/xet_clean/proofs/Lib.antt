@@ -1,5 +1,6 @@
 mod Policies
 mod Only
+mod Owned
 mod Completing
 mod Landing
 mod Joining

@@ -2,19 +2,19 @@
 use Rattle.std.proofs.Common.{◌≡◌, ◌∙◌, inr, ℕ, suc, ◌+◌, ◌*◌, ◌≤◌, ◌<◌, Bool, true, false, List, [], ◌∷◌, ◌++◌, length, map, take, drop, get_or, set, refl, sym, ap, subst, append-nil, length-append, append_assoc, arith}
 use Rattle.std.proofs.lemmas.List.{length-map, take_at}
 use Rattle.std.proofs.lemmas.List.Sums.{sum_by-append, sum_by-cons}
-use Rattle.std.specs.List.{AllByRecursion, sum_by}
+use Rattle.std.specs.List.{AllByRecursion, flat_map, sum_by}
 use Rattle.std.specs.Prelude.{Err, IsOkUnless, Ok, Result}
 use Rattle.xet_aggregate.specs.Aggregate.{Aggregate, empty}
 use Rattle.xet_aggregate.specs.Metrics.{zeros}
 use Rattle.xet_aggregate.specs.declared.metrics.DeduplicationMetrics.{DeduplicationMetrics}
-use Rattle.xet_base.specs.theorems.Elements.{all_both, all_more, all_push}
+use Rattle.xet_base.specs.theorems.Elements.{all_back, all_both, all_more, all_prefix, all_push}
 use Rattle.xet_choices.specs.Calls.{Call}
 use Rattle.xet_choices.specs.declared.choice.Choice.{Choice}
 use Rattle.xet_cut.specs.Chunking.{chunking}
 use Rattle.xet_cut.specs.declared.limits.LimitSettings.{LimitSettings}
-use Rattle.xet_dedup_queries.specs.Counting.{HasNext as Further}
+use Rattle.xet_dedup_queries.specs.Counting.{HasNext as Further, registered_leaves}
 use Rattle.xet_file_plan.specs.Moves.{PlanState}
-use Rattle.xet_hash.specs.Merkle.{leaf_of}
+use Rattle.xet_hash.specs.Merkle.{leaf_of, leaves_of}
 use Rattle.xet_hash.specs.declared.error.Place.TheVariants as place
 use Rattle.xet_hash.specs.declared.error.Reason.TheVariants.{OtherFileHash}
 use Rattle.xet_hash.specs.declared.error.StoreError.{StoreError}
@@ -22,14 +22,16 @@ use Rattle.xet_hash.specs.declared.error.StoreError.TheVariants.{Io, MalformedDa
 use Rattle.xet_hash.specs.declared.error.What.TheVariants as what
 use Rattle.xet_history.specs.declared.entry.Entry.{Entry}
 use Rattle.xet_io.specs.Faults.{Rose}
-use Rattle.xet_store_disk.specs.Cleaning.{AreTaken, FailedAt, IsLongAt, Later, RoseAt}
+use Rattle.xet_store_disk.specs.Cleaning.{AreTaken, FailedAt, IsLongAt, Later, RoseAt, chunkings}
+use Rattle.xet_store_disk.specs.Separate.{Among}
 use Rattle.xet_store_disk.specs.declared.info.XetFileInfo.{XetFileInfo}
 use Rattle.xet_store.specs.Holders.{Follows, FollowsAsking, Holder, calls_in}
 use Rattle.xet_store.specs.theorems.Following.{calls_in-append, follows_nothing, follows_then}
 use Rattle.xet_xorb_chunk.specs.Chunks.{chunk_leaf}
-use Rattle.xet_clean.specs.Planning.{IsFew, IsPlanned, IsWithin}
+use Rattle.xet_clean.specs.Files.{leaves_in}
+use Rattle.xet_clean.specs.Planning.{IsFew, IsPlanned, IsWithin, RegistersOnly}
 use Rattle.xet_clean.specs.Cleaning.{ClosesLast}
-use Rattle.xet_clean.specs.Closing.{AnyCalls, IsAtMost, IsUnclosed, RegistersAtMost, filled_files, recorded_in}
+use Rattle.xet_clean.specs.Closing.{AnyCalls, IsAtMost, IsUnclosed, RegistersAtMost, RegistersFull, filled_files, recorded_in}
 use Rattle.xet_clean.specs.Sources.{AreDone, AreRead, HasCleaned, IsCutShort, IsDone, IsTakenFrom, IsLoopError, IsSourceError, IsShort, IsUnclosedFor}
 use Rattle.xet_clean.specs.Working.{IsWorking, Planned, WasPlanned, Waits}
 use Rattle.xet_shard_format.specs.declared.record.MDBFileInfo.{MDBFileInfo}
@@ -38,6 +40,9 @@ use Rattle.xet_clean.specs.theorems.Closing.{error_earlier}
 use Rattle.xet_clean.specs.theorems.Hashes.{chunks_sum}
 use Rattle.xet_clean.specs.theorems.Keeping.{seen_follows, waits_seen, was_planned_follows}
 use Rattle.xet_clean.specs.theorems.Nexts.{closes_none, closes_then, last_closes, lands_nexts}
+use Rattle.xet_clean.specs.theorems.Owning.{registers_at_most, registers_both}
+use Rattle.xet_clean.proofs.Finishing.{planned_only}
+use Rattle.xet_clean.proofs.Owned.{only_own, source_own, working_own}
 use Rattle.xet_clean.proofs.Stopping.{HasRecorded, first_recorded}
 use Rattle.xet_clean.specs.theorems.Turns.{AreFrom, at_length, drop_past, done_counts, done_push, done_read, done_told, from_then, later_all, long_at, rose_at, set_at_length, taken_all, taken_each, tell_all, untouched}
 use Rattle.xet_clean.specs.declared.policy.Sha256Policy.{Sha256Policy}
@@ -108,6 +113,7 @@ module _ {S : Type 0} (tells : S → Bool) (left : S → List ℕ) (faults : S �
           recorded = omega arith;
           records = refl;
           registers = closes_none [] tt;
+          own = λ all. tt;
         };
         tell = refl;
         taken = taken_all tells left faults sources sources files all;
@@ -177,6 +183,20 @@ module _ {S : Type 0} (tells : S → Bool) (left : S → List ℕ) (faults : S �
     nexts_old : AllByRecursion Further (calls_in w.follows.own)
     nexts_old = lands_nexts (map chunk_leaf a.chunks) (calls_in w.follows.own) w.lands
 
+    -- ---- which chunks were registered
+
+    abbrev Of : List ℕ × ℕ → Type 0
+    Of = Among (flat_map leaves_of (chunkings left start.limits sources))
+
+    old_own : AllByRecursion (λ s. tells s ≡ true) sources → AllByRecursion Of (registered_leaves (calls_in w.follows.own) ++ map chunk_leaf a.chunks)
+    old_own all = working_own tells left faults sources l.done l.made l.rest l.files start h infos choices metrics a w l.are l.old_is all
+
+    old_calls : AllByRecursion (λ s. tells s ≡ true) sources → AllByRecursion Of (registered_leaves (calls_in w.follows.own))
+    old_calls all = all_prefix Of (registered_leaves (calls_in w.follows.own)) (map chunk_leaf a.chunks) (old_own all)
+
+    old_block : AllByRecursion (λ s. tells s ≡ true) sources → AllByRecursion Of (map chunk_leaf a.chunks)
+    old_block all = all_back Of (registered_leaves (calls_in w.follows.own)) (map chunk_leaf a.chunks) (old_own all)
+
     -- which records waited
     unclosed_for : (Are : List Call → Type 0) (first last : Holder) (next_leaves : List (List ℕ × ℕ)) (e : StoreError) → Follows h first → IsUnclosed Are a next_leaves first last e → IsUnclosedFor tells left sources start last e
     unclosed_for Are first last next_leaves e later u =
@@ -231,6 +251,13 @@ module _ {S : Type 0} (tells : S → Bool) (left : S → List ℕ) (faults : S �
           ap (λ (r : List S). set r n t) now_are
           ∙ ap (λ (k : ℕ). set (l.made ++ next.source ∷ next.later) k t) (sym counts.1)
           ∙ set_at_length l.made next.source t next.later
+
+      tells_next : AllByRecursion (λ s. tells s ≡ true) sources → tells next.source ≡ true
+      tells_next all = (all_back (λ s. tells s ≡ true) l.done (next.source ∷ next.later) (subst (AllByRecursion (λ s. tells s ≡ true)) sources_are all)).0
+
+      -- chunks of this one
+      next_own : (leaves : List (List ℕ × ℕ)) → AllByRecursion (Among (leaves_in start.limits (left next.source))) leaves → AllByRecursion Of leaves
+      next_own leaves all = source_own tells left faults sources start.limits l.done next.source next.later sources_are leaves all
 
       -- what was taken of all sources, if these bytes were of this one
       from_all : (t : S) (bytes : List ℕ) → IsTakenFrom tells left faults next.source t bytes
@@ -300,10 +327,10 @@ module _ {S : Type 0} (tells : S → Bool) (left : S → List ℕ) (faults : S �
         source_failed (TooLarge (what.Source i)) is = is.0
         source_failed e is = tt
 
-        pub stopped_at_source : (e : StoreError) → (asking : FollowsAsking h h') → IsFew h h' bytes → IsSourceError n (tells next.source) (left next.source) (faults next.source) (faults t) h h' e
+        pub stopped_at_source : (e : StoreError) → (asking : FollowsAsking h h') → IsFew h h' bytes → (tells next.source ≡ true → RegistersOnly h h' (left next.source)) → IsSourceError n (tells next.source) (left next.source) (faults next.source) (faults t) h h' e
             → IsStopped [] sources (set now n t) start h' e
         unfolding follows_then
-        stopped_at_source e asking few is =
+        stopped_at_source e asking few only is =
             let all = from_all t bytes from in
             let rest : List (List ℕ) = bytes ∷ map (λ (s : S). []) next.later in
             let recorded = has_recorded rest few.follows.follows.own 0 (none_recorded few.follows.follows.own few.follows.none) in
@@ -314,6 +341,8 @@ module _ {S : Type 0} (tells : S → Bool) (left : S → List ℕ) (faults : S �
               ap (λ (s : LimitSettings). length (chunking s bytes)) (ap (λ (x : Holder). x.limits) few.follows.follows.is ∙ ap (λ (x : Holder). x.limits) w.follows.is),
               length-map (chunking h'.limits bytes) leaf_of,
             ) in
+            let limits_same : h'.limits ≡ start.limits = ap (λ (x : Holder). x.limits) few.follows.follows.is ∙ ap (λ (x : Holder). x.limits) w.follows.is in
+            let its_own : AllByRecursion (λ s. tells s ≡ true) sources → AllByRecursion Of (registered_leaves (calls_in few.follows.follows.own)) = λ every. next_own (registered_leaves (calls_in few.follows.follows.own)) (only_own h h' few.follows.follows (left next.source) start.limits limits_same (only (tells_next every))) in
             record {
               follows = follows_then start h h' w.follows few.follows.follows;
               short = record {
@@ -334,6 +363,9 @@ module _ {S : Type 0} (tells : S → Bool) (left : S → List ℕ) (faults : S �
                 records = recorded.are;
                 registers = subst (ClosesLast []) (sym (calls_in-append w.follows.own few.follows.follows.own))
                     (closes_none (calls_in w.follows.own ++ calls_in few.follows.follows.own) (all_both Further (calls_in w.follows.own) (calls_in few.follows.follows.own) nexts_old few.nexts));
+                own = λ every.
+                    subst (λ (cs : List Call). AllByRecursion Of (registered_leaves cs)) (sym (calls_in-append w.follows.own few.follows.follows.own))
+                    (registers_both Of (calls_in w.follows.own) (calls_in few.follows.follows.own) (old_calls every) (its_own every));
               };
               tell = tell_all tells left faults sources (set now n t) (map (λ (f : Planned). f.bytes) l.files ++ rest) all;
               taken = taken_all tells left faults sources (set now n t) (map (λ (f : Planned). f.bytes) l.files ++ rest) all;
@@ -358,10 +390,10 @@ module _ {S : Type 0} (tells : S → Bool) (left : S → List ℕ) (faults : S �
     unclosed_failed Are first last next_leaves e later u = tt
 
     -- the file joined no aggregate
-    pub stopped_at_keep : (next : HasNext) (t : S) (h' last : Holder) (bytes : List ℕ) (plan : PlanState) → IsTakenFrom tells left faults next.source t bytes → IsPlanned h h' bytes plan
-        → (next_leaves : List (List ℕ × ℕ)) (e : StoreError) → IsAtMost (2 * length a.chunks + 2 * length a.files) h' last → IsUnclosed (AllByRecursion Further) a next_leaves h' last e → IsStopped [] sources (set now n t) start last e
+    pub stopped_at_keep : (next : HasNext) (t : S) (h' last : Holder) (bytes : List ℕ) (plan : PlanState) → IsTakenFrom tells left faults next.source t bytes → (tells next.source ≡ true → left next.source ≡ bytes) → IsPlanned h h' bytes plan
+        → (next_leaves : List (List ℕ × ℕ)) (e : StoreError) → IsAtMost (2 * length a.chunks + 2 * length a.files) h' last → IsUnclosed (RegistersFull a next_leaves) a next_leaves h' last e → IsStopped [] sources (set now n t) start last e
     unfolding follows_then
-    stopped_at_keep next t h' last bytes plan from planned next_leaves e few u =
+    stopped_at_keep next t h' last bytes plan from ended planned next_leaves e few u =
         let all = from_all next t bytes from in
         let rest : List (List ℕ) = bytes ∷ map (λ (s : S). []) next.later in
         let files : List (List ℕ) = map (λ (f : Planned). f.bytes) l.files ++ rest in
@@ -374,6 +406,10 @@ module _ {S : Type 0} (tells : S → Bool) (left : S → List ℕ) (faults : S �
         calls_in-append w.follows.own (p.own ++ r.own) ∙ ap (λ (l : List Call). calls_in w.follows.own ++ l) (calls_in-append p.own r.own) in
         let nexts_file : AllByRecursion Further (calls_in p.own) = subst (AllByRecursion Further) (sym (asking_calls h h' planned.follows)) planned.nexts in
         let limits_same : h'.limits ≡ start.limits = ap (λ (x : Holder). x.limits) p.is ∙ ap (λ (x : Holder). x.limits) w.follows.is in
+        let file_own : AllByRecursion (λ s. tells s ≡ true) sources → AllByRecursion Of (registered_leaves (calls_in p.own)) =
+        λ every.
+        let only : RegistersOnly h h' (left next.source) = subst (RegistersOnly h h') (sym (ended (tells_next next every))) (planned_only h h' bytes plan planned) in
+        next_own next (registered_leaves (calls_in p.own)) (only_own h h' p (left next.source) start.limits limits_same only) in
         let one : length p.own ≤ 3 * length (chunking start.limits bytes) =
         omega (arith, planned.few, ap length planned.leaves, ap (λ (s : LimitSettings). length (chunking s bytes)) limits_same, length-map (chunking h'.limits bytes) leaf_of) in
         let more : length r.own ≤ 2 * length a.chunks + 2 * length a.files =
@@ -397,7 +433,7 @@ module _ {S : Type 0} (tells : S → Bool) (left : S → List ℕ) (faults : S �
             );
             done = n;
             within = within_all;
-            failed = unclosed_failed (AllByRecursion Further) h' last next_leaves e p u;
+            failed = unclosed_failed (RegistersFull a next_leaves) h' last next_leaves e p u;
             read = read_first (set now n t) (t ∷ next.later) (set_next next t);
             untouched = rest_after (set now n t) (t ∷ next.later) (set_next next t) (ap (drop 1) (sym next.is));
             count = recorded.count;
@@ -405,12 +441,16 @@ module _ {S : Type 0} (tells : S → Bool) (left : S → List ℕ) (faults : S �
             records = recorded.are;
             registers = subst (ClosesLast []) (sym calls)
                 (closes_none (calls_in w.follows.own ++ (calls_in p.own ++ calls_in r.own))
-                (all_both Further (calls_in w.follows.own) (calls_in p.own ++ calls_in r.own) nexts_old (all_both Further (calls_in p.own) (calls_in r.own) nexts_file u.0.2)));
+                (all_both Further (calls_in w.follows.own) (calls_in p.own ++ calls_in r.own) nexts_old (all_both Further (calls_in p.own) (calls_in r.own) nexts_file u.0.2.1)));
+            own = λ every.
+                subst (λ (cs : List Call). AllByRecursion Of (registered_leaves cs)) (sym calls)
+                (registers_both Of (calls_in w.follows.own) (calls_in p.own ++ calls_in r.own) (old_calls every)
+                (registers_both Of (calls_in p.own) (calls_in r.own) (file_own every) (registers_at_most Of a next_leaves (calls_in r.own) u.0.2.0 (old_block every))));
           };
           tell = tell_all tells left faults sources (set now n t) files all;
           taken = taken_all tells left faults sources (set now n t) files all;
           later = later_all tells left faults sources (set now n t) files all;
-          reason = unclosed_reason (AllByRecursion Further) (set now n t) h' last next_leaves e p u;
+          reason = unclosed_reason (RegistersFull a next_leaves) (set now n t) h' last next_leaves e p u;
         }
 
     -- what was taken of all sources where the loop ends
@@ -448,6 +488,9 @@ module _ {S : Type 0} (tells : S → Bool) (left : S → List ℕ) (faults : S �
             recorded = recorded.few;
             records = recorded.are;
             registers = subst (ClosesLast closing.0) (sym (calls_in-append w.follows.own r.own)) (closes_then closing.0 (calls_in w.follows.own) (calls_in r.own) nexts_old closing.1);
+            own = λ every.
+                subst (λ (cs : List Call). AllByRecursion Of (registered_leaves cs)) (sym (calls_in-append w.follows.own r.own))
+                (registers_both Of (calls_in w.follows.own) (calls_in r.own) (old_calls every) (registers_at_most Of a [] (calls_in r.own) u.0.2 (old_block every)));
           };
           tell = tell_all tells left faults sources now files from_end;
           taken = taken_all tells left faults sources now files from_end;

@@ -3,7 +3,8 @@ use Rattle.std.proofs.Common.{◌≡◌, ◌∙◌, inl, inr, ℕ, ◌+◌, ◌*
 use Rattle.std.proofs.lemmas.Bool.Decides.{nat_tests}
 use Rattle.std.proofs.lemmas.List.{append-nil, length-map, take-append-drop}
 use Rattle.std.proofs.lemmas.List.Sums.{sum_by-append, sum_by-cons}
-use Rattle.std.specs.List.{AllByRecursion, sum_by}
+use Rattle.std.proofs.lemmas.List.Concat.{flat_map-append}
+use Rattle.std.specs.List.{AllByRecursion, flat_map, sum_by}
 use Rattle.std.specs.Prelude.{Any, slice_index_or}
 use Rattle.xet_aggregate.specs.Aggregate.{Aggregate, IsAggregate, Pending, empty, fits}
 use Rattle.xet_aggregate.specs.Metrics.{zeros}
@@ -16,15 +17,16 @@ use Rattle.xet_choices.specs.theorems.Calls.{queries_of-append, registered_chunk
 use Rattle.xet_cut.specs.Limits.{AreInRange}
 use Rattle.xet_cut.specs.declared.limits.LimitSettings.{LimitSettings}
 use Rattle.xet_dedup.specs.Deduping.{metrics_of_both}
-use Rattle.xet_dedup_queries.specs.Counting.{HasNext}
+use Rattle.xet_dedup_queries.specs.Counting.{HasNext, registered_leaves}
 use Rattle.xet_hash.specs.declared.error.StoreError.{StoreError}
 use Rattle.xet_shard_format.specs.declared.record.MDBFileInfo.{MDBFileInfo}
 use Rattle.xet_store.specs.Holders.{Follows, Holder, calls_in}
 use Rattle.xet_store.specs.theorems.Following.{calls_in-append, follows_nothing, follows_then}
+use Rattle.xet_store_disk.specs.Separate.{Among}
 use Rattle.xet_store_disk.specs.declared.info.XetFileInfo.{XetFileInfo}
 use Rattle.xet_xorb_chunk.specs.Chunks.{chunk_leaf, total}
 use Rattle.xet_clean.specs.Cleaning.{ClosesLast, RegistersPart, close_of}
-use Rattle.xet_clean.specs.Closing.{AnyCalls, Closes, HaveForm, IsAtMost, IsUnclosed, Joins, filled_files, recorded_in}
+use Rattle.xet_clean.specs.Closing.{AnyCalls, Closes, HaveForm, IsAtMost, IsUnclosed, Joins, RegistersAtMost, filled_files, recorded_in}
 use Rattle.xet_clean.specs.Merging.{AreHeld, EachRecorded, IsPartOf, IsUnmerged, MayMerge, MayMergeAll, MergesAll, Part, files_of}
 use Rattle.xet_clean.specs.Planning.{IsWithin}
 use Rattle.xet_clean.specs.Policies.{info_by}
@@ -36,6 +38,7 @@ use Rattle.xet_clean.specs.theorems.Adding.{Adds, adds_closed_last, calls_both, 
 use Rattle.xet_clean.specs.theorems.Ending.{last_chunks}
 use Rattle.xet_clean.specs.theorems.Keeping.{any_last, any_left, limits_follow, own_then}
 use Rattle.xet_clean.specs.theorems.Nexts.{closes_then, lands_nexts}
+use Rattle.xet_clean.specs.theorems.Owning.{in_more, registers_at_most, registers_both}
 use Rattle.xet_clean.proofs.Taking.{IsTaken, merged_more, part_small, part_within, taken_of}
 use Rattle.xet_clean.proofs.Parting.{IsNext, each_filled, each_one, files_append, files_push, may_follows, may_next, may_none, most_of}
 use Rattle.xet_clean.specs.theorems.Records.{waits_among_more}
@@ -63,6 +66,7 @@ merged_nothing h = record {
   held = tt;
   asked = refl;
   few = omega arith;
+  own = tt;
 }
 
 le_true : (m n : ℕ) → m ≤ n → nat_le m n ≡ true
@@ -145,14 +149,28 @@ module _ (ps : List Part) (rest : List Working) (start now : Holder) (infos : Li
   merging_nexts : AllByRecursion HasNext (calls_in is.merged.follows.own)
   merging_nexts = lands_nexts (map chunk_leaf a.chunks) (calls_in is.merged.follows.own) is.merged.lands
 
-  pub unmerged : (Are : List Call → Type 0) → ((calls : List Call) → Are calls → (last : List (List ℕ × ℕ)) × ClosesLast last calls) → (next : List (List ℕ × ℕ)) (new : Holder) (e : StoreError) → IsUnclosed Are a next now new e
+  -- which chunks were registered, and which are left
+  abbrev Of : List ℕ × ℕ → Type 0
+  Of = Among (flat_map (λ (f : Planned). f.plan.leaves) (files_of ps))
+
+  merging_own : AllByRecursion Of (registered_leaves (calls_in is.merged.follows.own) ++ map chunk_leaf a.chunks)
+  merging_own =
+      let leaves : List (List ℕ × ℕ) = registered_leaves (calls_in is.merged.follows.own) ++ map chunk_leaf a.chunks in
+      let first : List (List ℕ × ℕ) = flat_map (λ (f : Planned). f.plan.leaves) (files_of is.done) in
+      let rest : List (List ℕ × ℕ) = flat_map (λ (f : Planned). f.plan.leaves) (files_of is.later) in
+      let all : flat_map (λ (f : Planned). f.plan.leaves) (files_of ps) ≡ first ++ rest =
+      ap (flat_map (λ (f : Planned). f.plan.leaves)) (ap files_of is.order ∙ files_append is.done is.later) ∙ flat_map-append (λ (f : Planned). f.plan.leaves) (files_of is.done) (files_of is.later) in
+      subst (λ (l : List (List ℕ × ℕ)). AllByRecursion (Among l) (registered_leaves (calls_in is.merged.follows.own) ++ map chunk_leaf a.chunks)) (sym all) (in_more first rest leaves is.merged.own)
+
+  pub unmerged : (Are : List Call → Type 0) (next : List (List ℕ × ℕ)) → ((calls : List Call) → Are calls → ((last : List (List ℕ × ℕ)) × ClosesLast last calls) × RegistersAtMost a next calls) → (new : Holder) (e : StoreError) → IsUnclosed Are a next now new e
       → IsUnmerged ps start new e
-  unmerged Are closing next new e unclosed =
+  unmerged Are next closing new e unclosed =
       let all : files_of ps ≡ files_of is.done ++ files_of is.later = ap files_of is.order ∙ files_append is.done is.later in
       let f : Follows start now = is.merged.follows in
       let g : Follows now new = unclosed.0.1.follows in
       let whole : Follows start new = follows_then start now new f g in
-      let last = closing (calls_in g.own) unclosed.0.2 in
+      let closes = closing (calls_in g.own) unclosed.0.2 in
+      let last = closes.0 in
       let records : recorded_in whole.own ≡ recorded_in f.own ++ take unclosed.0.0 (filled_files a) =
       ap recorded_in (own_then start now new f g whole) ∙ recorded_in-append f.own g.own ∙ ap (λ (l : List MDBFileInfo). recorded_in f.own ++ l) unclosed.0.1.are in
       record {
@@ -169,6 +187,9 @@ module _ (ps : List Part) (rest : List Working) (start now : Holder) (infos : Li
         records = subst (AllByRecursion (λ r. Any (λ f. IsRecordOf f r) (files_of ps))) (sym records) (unmerged_records unclosed.0.0);
         last = last.0;
         registers = subst (ClosesLast last.0) (sym (calls_both start now new f g whole)) (closes_then last.0 (calls_in f.own) (calls_in g.own) merging_nexts last.1);
+        own = subst (λ (cs : List Call). AllByRecursion Of (registered_leaves cs)) (sym (calls_both start now new f g whole))
+            (registers_both Of (calls_in f.own) (calls_in g.own) (all_prefix Of (registered_leaves (calls_in is.merged.follows.own)) (map chunk_leaf a.chunks) merging_own)
+            (registers_at_most Of a next (calls_in g.own) closes.1 (all_back Of (registered_leaves (calls_in is.merged.follows.own)) (map chunk_leaf a.chunks) merging_own)));
       }
 
   -- few entries in all, if those since are few

@@ -1,5 +1,5 @@
 -- A source that is read block by block, and the file that is cleaned of its bytes.
-use Rattle.std.proofs.Common.{◌≡◌, ◌∙◌, inl, inr, ℕ, ◌<◌, ◌≤◌, Bool, true, false, true≢false, List, [], ◌++◌, append_assoc, length, take, drop, take-append-drop, refl, sym, ap, subst, arith, length-append}
+use Rattle.std.proofs.Common.{◌≡◌, ◌∙◌, inl, inr, ℕ, ◌<◌, ◌≤◌, Bool, true, false, true≢false, List, [], ◌++◌, append_assoc, append-nil, length, take, drop, take-append-drop, refl, sym, ap, subst, arith, length-append}
 use Rattle.xet_cut.specs.declared.limits.LimitSettings.{LimitSettings}
 use Rattle.xet_hash.specs.declared.error.Place.TheVariants as place
 use Rattle.xet_hash.specs.declared.error.StoreError.{StoreError}
@@ -10,7 +10,7 @@ use Rattle.xet_io.specs.Whole.{FillsWith}
 use Rattle.xet_store.specs.Interface.{IsErrorSince}
 use Rattle.xet_store.specs.Holders.{Follows, Holder}
 use Rattle.xet_store.specs.theorems.Following.{asking_nothing, follows_nothing}
-use Rattle.xet_clean.specs.Planning.{IsFew}
+use Rattle.xet_clean.specs.Planning.{IsFew, RegistersOnly}
 use Rattle.xet_clean.specs.Errors.{IsCleanerError}
 use Rattle.xet_clean.specs.Sources.{IsSourceError, Takes}
 use Rattle.xet_clean.proofs.FileCalls.{same_limits}
@@ -24,6 +24,10 @@ takes_nothing tells left = record { taken = λ t. refl; ended = λ e. absurd (tr
 -- all bytes are some
 pub takes_some : (last tells : Bool) (left rest bytes : List ℕ) → Takes last tells left rest bytes → Takes false tells left rest bytes
 takes_some last tells left rest bytes is = record { taken = is.taken; ended = λ e. absurd (true≢false (sym e)) }
+
+-- all that a source had left
+pub takes_all : (tells : Bool) (left rest bytes : List ℕ) → Takes true tells left rest bytes → tells ≡ true → left ≡ bytes
+takes_all tells left rest bytes is told = is.taken told ∙ ap (λ (l : List ℕ). bytes ++ l) (is.ended refl told) ∙ append-nil bytes
 
 -- one more block
 pub takes_next : (last tells now : Bool) (left mid rest bytes block : List ℕ) → now ≡ tells → Takes false tells left mid bytes → Takes last now mid rest block → Takes false tells left rest (bytes ++ block)
@@ -93,3 +97,7 @@ cleaner_error number tells left rest bytes more count before after old mid new e
 pub few_nothing : (h : Holder) (bytes : List ℕ) → IsFew h h bytes
 unfolding asking_nothing follows_nothing
 few_nothing h bytes = record { follows = asking_nothing h; nexts = tt; few = omega arith }
+
+pub only_nothing : (h : Holder) (bytes : List ℕ) → RegistersOnly h h bytes
+unfolding follows_nothing
+only_nothing h bytes = record { follows = follows_nothing h; are = tt }

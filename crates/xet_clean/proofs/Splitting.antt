@@ -1,5 +1,5 @@
 -- Bytes that are split into chunks: how many these are, and how long.
-use Rattle.std.proofs.Common.{◌≡◌, ◌∙◌, ℕ, zero, suc, ◌+◌, ◌-◌, ◌*◌, ◌<◌, ◌≤◌, List, [], ◌∷◌, ◌++◌, append_assoc, length, map, take, drop, Option, Some, None, refl, sym, ap, lt_of_le_of_lt, arith, length-append, length-take}
+use Rattle.std.proofs.Common.{◌≡◌, ◌∙◌, ℕ, zero, suc, ◌+◌, ◌-◌, ◌*◌, ◌<◌, ◌≤◌, List, [], ◌∷◌, ◌++◌, append_assoc, length, map, take, drop, Option, Some, None, refl, sym, ap, subst, lt_of_le_of_lt, arith, length-append, length-take}
 use Rattle.std.specs.List.{AllByRecursion}
 use Rattle.std.specs.Option.{option_to_list}
 use Rattle.std.proofs.lemmas.List.{append-nil, length-map, length-take-le, map-append}
@@ -15,7 +15,9 @@ use Rattle.xet_cut.specs.theorems.Parts.{first_chunk_len_within}
 use Rattle.xet_cut.specs.theorems.Streams.{chunking_cut, chunking_unended}
 use Rattle.xet_file_plan.specs.Kept.{max_chunks}
 use Rattle.xet_hash.specs.Merkle.{leaf_of, leaves_of, total_len}
+use Rattle.xet_store_disk.specs.Separate.{Among}
 use Rattle.xet_xorb_chunk.specs.Chunks.{chunk_leaf, chunk_of}
+use Rattle.xet_clean.specs.theorems.Owning.{in_itself, in_more}
 
 -- ---- leaves
 
@@ -138,6 +140,13 @@ split_count s bs parts left rest is =
       ap length (is.joined rest),
       length-append parts (chunking s (left ++ rest)),
     )
+
+-- The chunks into which they are split are among those of the bytes, and then any others.
+pub split_in : (s : LimitSettings) (bs : List ℕ) (parts : List (List ℕ)) (left rest : List ℕ) → IsSplit s bs parts left → AllByRecursion (Among (leaves_of (chunking s (bs ++ rest)))) (leaves_of parts)
+split_in s bs parts left rest is =
+    subst (λ (cs : List (List ℕ)). AllByRecursion (Among (leaves_of cs)) (leaves_of parts)) (sym (is.joined rest))
+    (subst (λ (ls : List Leaf). AllByRecursion (Among ls) (leaves_of parts)) (sym (leaves-append parts (chunking s (left ++ rest))))
+    (in_more (leaves_of parts) (leaves_of (chunking s (left ++ rest))) (leaves_of parts) (in_itself (leaves_of parts))))
 
 -- The chunks of the bytes are those into which they are split, and those of the buffered ones.
 pub split_chunks : (s : LimitSettings) (bs : List ℕ) (parts : List (List ℕ)) (left : List ℕ) → IsSplit s bs parts left → chunking s bs ≡ parts ++ chunking s left

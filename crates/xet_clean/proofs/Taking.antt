@@ -3,11 +3,12 @@ use Rattle.std.proofs.Common.{◌≡◌, ◌≢◌, ◌∙◌, inl, inr, ℕ, �
 use Rattle.std.proofs.lemmas.Bool.{and_parts, leb-true}
 use Rattle.std.proofs.lemmas.List.{append-nil, length-map, map-append}
 use Rattle.std.proofs.lemmas.List.Sums.{sum_by_push}
-use Rattle.std.specs.List.{AllByRecursion}
+use Rattle.std.proofs.lemmas.List.Concat.{flat_map-append}
+use Rattle.std.specs.List.{AllByRecursion, flat_map}
 use Rattle.xet_aggregate.specs.Aggregate.{Aggregate, IsAggregate, Pending, fits, merged, shifted_file}
 use Rattle.xet_aggregate.specs.declared.metrics.DeduplicationMetrics.{DeduplicationMetrics}
 use Rattle.xet_aggregate.specs.theorems.Merging.{IsAggregate-fits, empty-merged}
-use Rattle.xet_base.specs.theorems.Elements.{all_both, all_more, all_push}
+use Rattle.xet_base.specs.theorems.Elements.{all_back, all_both, all_more, all_prefix, all_push}
 use Rattle.xet_choices.specs.Calls.{Call, queries_of, registered_chunks}
 use Rattle.xet_choices.specs.Calls.Call.{Registered}
 use Rattle.xet_choices.specs.declared.choice.Choice.{Choice}
@@ -16,9 +17,11 @@ use Rattle.xet_cut.specs.Limits.{AreInRange}
 use Rattle.xet_cut.specs.declared.limits.LimitSettings.{LimitSettings}
 use Rattle.xet_dedup.specs.Deduping.{metrics_of_both}
 use Rattle.xet_dedup.specs.theorems.Forms.{merged_are_files}
+use Rattle.xet_dedup_queries.specs.Counting.{registered_leaves}
 use Rattle.xet_shard_format.specs.declared.record.MDBFileInfo.{MDBFileInfo}
 use Rattle.xet_store.specs.Holders.{Holder, calls_in}
 use Rattle.xet_store.specs.theorems.Following.{calls_in-append, follows_then}
+use Rattle.xet_store_disk.specs.Separate.{Among}
 use Rattle.xet_store_disk.specs.declared.info.XetFileInfo.{XetFileInfo}
 use Rattle.xet_xorb_chunk.specs.Chunks.{chunk_leaf}
 use Rattle.xet_clean.specs.Cleaning.{Lands, metrics_sum}
@@ -34,6 +37,7 @@ use Rattle.xet_clean.proofs.Completing.{both_some}
 use Rattle.xet_clean.specs.theorems.Keeping.{limits_follow, seen_follows, seen_then}
 use Rattle.xet_clean.proofs.Landing.{lands_last, lands_then, later_last, later_then, part_itself, part_left, part_right, part_then}
 use Rattle.xet_clean.proofs.Parting.{each_filled, each_push, files_push, part_records, part_shifted, part_waits, shifted_waits}
+use Rattle.xet_clean.specs.theorems.Owning.{in_after, in_more, registers_then}
 use Rattle.xet_clean.specs.theorems.Records.{waits_among_more, waits_earlier}
 use Rattle.xet_clean.specs.theorems.Rising.{flat_push}
 use Rattle.xet_clean.specs.theorems.Sums.{small_both, small_sum, sum_append}
@@ -60,6 +64,7 @@ pub record IsTaken (ps : List Part) (p : Part) (now new : Holder) (a joined : Ag
   pub lands : Lands (leaves_of joined) (before ++ calls)
   pub held : (part : List (List ℕ × ℕ)) → IsLater (leaves_of a) before part → IsLater (leaves_of joined) (before ++ calls) part
   pub its : IsLater (leaves_of joined) (before ++ calls) (leaves_of p.left)
+  pub own : AllByRecursion (Among (flat_map (λ f. f.plan.leaves) (files_of ps ++ p.files))) (registered_leaves (before ++ calls) ++ map chunk_leaf joined.chunks)
   pub counted : registered_chunks calls + length joined.chunks ≡ length a.chunks + length p.left.chunks
   pub asked : queries_of calls ≡ 0
   pub bound : most + (2 * length joined.chunks + 2 * length joined.files) ≤ (2 * length a.chunks + 2 * length a.files) + (2 * length p.left.chunks + 2 * length p.left.files)
@@ -76,6 +81,34 @@ module _ (ps : List Part) (old now : Holder) (infos : List XetFileInfo) (choices
   part_small =
       subst (λ (k : DeduplicationMetrics). AreSmall k (length p.files)) (sym (may.working.sums ∙ ap (metrics_sum p.end.limits (map (λ f. f.bytes) p.files)) may.working.chosen))
       (small_sum p.start p.end p.files (subst AreInRange (sym limits_now) range) may.working.planned)
+
+  -- ---- which chunks were registered
+
+  abbrev Of : List ℕ × ℕ → Type 0
+  Of = Among (flat_map (λ (f : Planned). f.plan.leaves) (files_of ps ++ p.files))
+
+  abbrev planned_leaves : List Planned → List (List ℕ × ℕ)
+  planned_leaves fs = flat_map (λ (f : Planned). f.plan.leaves) fs
+
+  parts_leaves : flat_map (λ (f : Planned). f.plan.leaves) (files_of ps ++ p.files) ≡ flat_map (λ (f : Planned). f.plan.leaves) (files_of ps) ++ flat_map (λ (f : Planned). f.plan.leaves) p.files
+  parts_leaves = flat_map-append (λ (f : Planned). f.plan.leaves) (files_of ps) p.files
+
+  old_own : AllByRecursion Of (registered_leaves (calls_in m.follows.own) ++ map chunk_leaf a.chunks)
+  old_own =
+      subst (λ (l : Leaves). AllByRecursion (Among l) (registered_leaves (calls_in m.follows.own) ++ map chunk_leaf a.chunks)) (sym parts_leaves)
+      (in_more (planned_leaves (files_of ps)) (planned_leaves p.files) (registered_leaves (calls_in m.follows.own) ++ map chunk_leaf a.chunks) m.own)
+
+  old_calls : AllByRecursion Of (registered_leaves (calls_in m.follows.own))
+  old_calls = all_prefix Of (registered_leaves (calls_in m.follows.own)) (map chunk_leaf a.chunks) old_own
+
+  old_block : AllByRecursion Of (map chunk_leaf a.chunks)
+  old_block = all_back Of (registered_leaves (calls_in m.follows.own)) (map chunk_leaf a.chunks) old_own
+
+  its_block : AllByRecursion Of (map chunk_leaf p.left.chunks)
+  its_block =
+      subst (λ (l : Leaves). AllByRecursion (Among l) (map chunk_leaf p.left.chunks)) (sym parts_leaves)
+      (in_after (planned_leaves (files_of ps)) (planned_leaves p.files) (map chunk_leaf p.left.chunks)
+      (all_back (Among (planned_leaves p.files)) (registered_leaves (calls_in may.working.follows.own)) (map chunk_leaf p.left.chunks) may.working.own))
 
   -- ---- it fits
 
@@ -133,6 +166,8 @@ module _ (ps : List Part) (old now : Holder) (infos : List XetFileInfo) (choices
           lands = subst (λ (l : Leaves). Lands l (calls_in m.follows.own ++ [])) (sym both_are) fit_lands;
           held = λ part is. subst (λ (l : Leaves). IsLater l (calls_in m.follows.own ++ []) part) (sym both_are) (fit_held part is);
           its = subst (λ (l : Leaves). IsLater l (calls_in m.follows.own ++ []) (map chunk_leaf p.left.chunks)) (sym both_are) (inr (part_right (map chunk_leaf a.chunks) (map chunk_leaf p.left.chunks)));
+          own = registers_then Of (calls_in m.follows.own) [] (map chunk_leaf (a.chunks ++ p.left.chunks)) old_calls
+              (subst (AllByRecursion Of) (sym both_are) (all_both Of (map chunk_leaf a.chunks) (map chunk_leaf p.left.chunks) old_block its_block));
           counted = omega (arith, chunks);
           asked = refl;
           bound = omega (arith, files, chunks);
@@ -189,6 +224,8 @@ module _ (ps : List Part) (old now : Holder) (infos : List XetFileInfo) (choices
       lands = closed_lands;
       held = closed_held;
       its = inr (part_itself (map chunk_leaf p.left.chunks));
+      own = registers_then Of (calls_in m.follows.own) (Registered (map chunk_leaf a.chunks) (map chunk_leaf p.left.chunks) ∷ []) (map chunk_leaf p.left.chunks) old_calls
+          (all_both Of (map chunk_leaf a.chunks ++ []) (map chunk_leaf p.left.chunks) (all_both Of (map chunk_leaf a.chunks) [] old_block tt) its_block);
       counted = omega (arith, length-map a.chunks chunk_leaf);
       asked = refl;
       bound = omega arith;
@@ -277,4 +314,6 @@ module _ (ps : List Part) (old now : Holder) (infos : List XetFileInfo) (choices
             k.bound,
             sum_by_push (λ (q : Part). 2 * length q.left.chunks + 2 * length q.left.files) ps p,
           );
+          own = subst (λ (cs : List Call). AllByRecursion (Among (flat_map (λ (f : Planned). f.plan.leaves) (files_of (ps ++ p ∷ [])))) (registered_leaves cs ++ map chunk_leaf joined.chunks)) (sym calls_are)
+              (subst (λ (fs : List Planned). AllByRecursion (Among (flat_map (λ (f : Planned). f.plan.leaves) fs)) (registered_leaves (calls_in m.follows.own ++ k.calls) ++ map chunk_leaf joined.chunks)) files_are k.own);
         }

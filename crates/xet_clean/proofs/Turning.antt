@@ -1,6 +1,5 @@
 -- One turn of the loop over the sources: a source is cleaned, and its file is kept.
 use Rattle.std.proofs.Common.{Result, Ok, Err, IfOk, OnOk, ◌≡◌, ◌∙◌, ℕ, ◌+◌, ◌*◌, ◌^◌, ◌≤◌, ◌<◌, Bool, true, false, List, [], ◌∷◌, ◌++◌, length, map, get_or, set, sym, ap, subst, arith}
-use Rattle.std.specs.List.{AllByRecursion}
 use Rattle.std.specs.Result.{IfErr, OnErr}
 use Rattle.xet_aggregate.specs.Aggregate.{Aggregate, empty}
 use Rattle.xet_aggregate.specs.Metrics.{zeros}
@@ -8,19 +7,19 @@ use Rattle.xet_aggregate.specs.declared.metrics.DeduplicationMetrics.{Deduplicat
 use Rattle.xet_choices.specs.declared.choice.Choice.{Choice}
 use Rattle.xet_cut.specs.Limits.{AreInRange}
 use Rattle.xet_cut.specs.declared.limits.LimitSettings.{LimitSettings}
-use Rattle.xet_dedup_queries.specs.Counting.{HasNext as Further}
 use Rattle.xet_file_plan.specs.Moves.{PlanState}
 use Rattle.xet_hash.specs.declared.error.StoreError.{StoreError}
 use Rattle.xet_io.specs.Frame.{Stays}
 use Rattle.xet_store_disk.specs.declared.info.XetFileInfo.{XetFileInfo}
 use Rattle.xet_store.specs.Holders.{FollowsAsking, Holder, calls_in}
 use Rattle.xet_xorb_chunk.specs.Chunks.{chunk_leaf}
-use Rattle.xet_clean.specs.Planning.{IsFew, IsFinished}
-use Rattle.xet_clean.specs.Closing.{Closes, IsAtMost, IsUnclosed, RegistersAtMost}
+use Rattle.xet_clean.specs.Planning.{IsFew, IsFinished, RegistersOnly}
+use Rattle.xet_clean.specs.Closing.{Closes, IsAtMost, IsUnclosed, RegistersAtMost, RegistersFull}
 use Rattle.xet_clean.specs.Sources.{AreRead, IsLoopError, IsShort, IsSourceError, Takes}
 use Rattle.xet_clean.specs.Working.{EndsWith, IsAdded, IsWorking, Planned}
 use Rattle.xet_clean.proofs.Looped.{ends_with, read_end}
 use Rattle.xet_clean.proofs.Looping.{HasNext, IsLoop, IsStopped, has_next, loop_begins, loop_next, next_at, stopped_at_end, stopped_at_keep, stopped_at_source}
+use Rattle.xet_clean.proofs.Reading.{takes_all}
 use Rattle.xet_clean.specs.theorems.Nexts.{last_closes}
 use Rattle.xet_clean.specs.theorems.Turns.{done_one, taken_from}
 use Rattle.xet_clean.specs.declared.policy.Sha256Policy.{Sha256Policy}
@@ -31,6 +30,7 @@ module _ {S F : Type 0} (tells : S → Bool) (left : S → List ℕ) (faults : S
   pub record IsCleanedAt (n : ℕ) (s t : S) (h h' : Holder) (file : Result F StoreError) : Type 0 where
     pub finished : IfOk file (λ f. (bytes : List ℕ) × Takes true (tells s) (left s) (left t) bytes × IsFinished h h' n (sha256_by policy bytes) bytes (info f) (counts f) (chosen f) (remains f))
     pub few : OnErr file ((bytes : List ℕ) × Takes false (tells s) (left s) (left t) bytes × IsFew h h' bytes)
+    pub own : OnErr file (tells s ≡ true → RegistersOnly h h' (left s))
     pub follows : FollowsAsking h h'
     pub frame : Stays tells faults s t
     pub refused : IfErr file (IsSourceError n (tells s) (left s) (faults s) (faults t) h h')
@@ -38,7 +38,7 @@ module _ {S F : Type 0} (tells : S → Bool) (left : S → List ℕ) (faults : S
   -- What is known after its file was kept, with this result.
   pub record IsKeptAt {U : Type 0} (a : Aggregate) (h' last : Holder) (file : Result F StoreError) (r : Result U StoreError) : Type 0 where
     pub few : IsAtMost (2 * length a.chunks + 2 * length a.files) h' last
-    pub refused : IfErr r (λ e. IfOk file (λ f. IsUnclosed (AllByRecursion Further) a (map chunk_leaf (remains f).chunks) h' last e))
+    pub refused : IfErr r (λ e. IfOk file (λ f. IsUnclosed (RegistersFull a (map chunk_leaf (remains f).chunks)) a (map chunk_leaf (remains f).chunks) h' last e))
     pub kept : IfErr file (λ e. (r ≡ Err e) × (last ≡ h'))
 
   module _ (sources now : List S) (n : ℕ) (start h : Holder) (infos : List XetFileInfo) (choices : List (List Choice)) (metrics : DeduplicationMetrics) (a : Aggregate)
@@ -75,7 +75,8 @@ module _ {S F : Type 0} (tells : S → Bool) (left : S → List ℕ) (faults : S
         let one = cleaned_next d t h' (Ok f) is in
         let finished = one.finished.2 in
         subst (IsStopped tells left faults policy [] sources (set now n t) start last) (cc same)
-        (stopped_at_keep tells left faults policy sources now n start h infos choices metrics a l next t h' last one.finished.0 finished.plan (taken_from tells left faults true next.source t one.finished.0 one.frame one.finished.1) finished.planned
+        (stopped_at_keep tells left faults policy sources now n start h infos choices metrics a l next t h' last one.finished.0 finished.plan (taken_from tells left faults true next.source t one.finished.0 one.frame one.finished.1)
+        (takes_all (tells next.source) (left next.source) (left t) one.finished.0 one.finished.1) finished.planned
         (map chunk_leaf (remains f).chunks) x kept.few kept.refused)
     turn_stops {U} d t h' last (Err x) r e is kept same =
         let one = cleaned_next d t h' (Err x) is in
@@ -83,7 +84,7 @@ module _ {S F : Type 0} (tells : S → Bool) (left : S → List ℕ) (faults : S
         let errors : x ≡ e = cc both in
         subst (λ (g : Holder). IsStopped tells left faults policy [] sources (set now n t) start g e) (sym kept.kept.1)
         (subst (IsStopped tells left faults policy [] sources (set now n t) start h') errors
-        (stopped_at_source tells left faults policy sources now n start h infos choices metrics a l next t h' one.few.0 (taken_from tells left faults false next.source t one.few.0 one.frame one.few.1) x one.follows one.few.2 one.refused))
+        (stopped_at_source tells left faults policy sources now n start h infos choices metrics a l next t h' one.few.0 (taken_from tells left faults false next.source t one.few.0 one.frame one.few.1) x one.follows one.few.2 one.own one.refused))
 
     -- it was kept
     pub turn_goes_on : {U : Type 0} → length sources ≤ 2 ^ 20 → AreInRange start.limits → (d t : S) (h' last : Holder) (file : Result F StoreError) (r : Result U StoreError) (u : U)

@@ -32,7 +32,7 @@ use Rattle.xet_store_disk.specs.Cleaning.{Adds, EachTold, FailedAt, HasFile, IsL
 use Rattle.xet_store_disk.specs.Separate.{Among, MetChunk, Separate}
 use Rattle.xet_store_disk.specs.Store.{plan_of}
 use Rattle.xet_store_disk.specs.declared.info.XetFileInfo.{XetFileInfo}
-use Rattle.xet_store.specs.Alone.{IsFault, StepsTo, StepsUntil}
+use Rattle.xet_store.specs.Alone.{IsFault, MakesSteps, MakesStepsUntil}
 use Rattle.xet_clean.specs.Files.{HasChoices, leaves_in}
 use Rattle.xet_clean.specs.Policies.{info_by, sha256_by}
 use Rattle.xet_clean.specs.declared.policy.Sha256Policy.{Sha256Policy}
@@ -41,21 +41,22 @@ use Rattle.xet_store.specs.Holders.{calls_in, numbered}
 
 -- ---- the history
 
--- The entries were added by completed steps of pass 0, or also by one that failed and was the last. No step failed if there was
--- no error, or one of a source. One failed by the disk if that is the error.
-abbrev pub Makes : Option StoreError → RecordedState → List Entry → Type 0
-Makes None s entries = StepsTo s.store.limits 0 (core_of s) entries
-Makes (Some (Io (Source i))) s entries = StepsTo s.store.limits 0 (core_of s) entries
-Makes (Some (TooLarge (what.Source i))) s entries = StepsTo s.store.limits 0 (core_of s) entries
-Makes (Some (Io Disk)) s entries = StepsUntil s.store.limits 0 (core_of s) (Io Disk) entries
-Makes (Some e) s entries = StepsTo s.store.limits 0 (core_of s) entries ⊎ ((error : StoreError) × StepsUntil s.store.limits 0 (core_of s) error entries)
+-- Between two states the entries were made by completed steps of pass 0, or also by one that failed and was the last. No step failed
+-- if there was no error, or one of a source. One failed by the disk if that is the error. On the disk nothing has changed but the
+-- files that the entries name, and those of the step that failed.
+abbrev pub Makes : Option StoreError → RecordedState → RecordedState → List Entry → Type 0
+Makes None old new entries = MakesSteps old new entries
+Makes (Some (Io (Source i))) old new entries = MakesSteps old new entries
+Makes (Some (TooLarge (what.Source i))) old new entries = MakesSteps old new entries
+Makes (Some (Io Disk)) old new entries = MakesStepsUntil (Io Disk) old new entries
+Makes (Some e) old new entries = MakesSteps old new entries ⊎ ((error : StoreError) × MakesStepsUntil error old new entries)
 
 -- A call, with an error or none, added these entries to the history, and they lead to its core. If one of them is a failure of
 -- the disk, the disk's count of failures rose.
 pub record Grows (error : Option StoreError) (old new : RecordedState) : Type 0 where
   pub entries : List Entry
   pub steps : Steps old new entries
-  pub makes : Makes error old entries
+  pub makes : Makes error old new entries
   pub rose : Any IsFault entries → Rose old.store.faults new.store.faults
 
 -- the entries since a state
@@ -102,6 +103,14 @@ pub record RegistersFew (calls : List Call) : Type 0 where
   pub last : List (List ℕ × ℕ)
   pub is : calls ≡ before ++ close_of last
   pub lands : Lands last before
+
+-- If the entry registers a xorb, each of its chunks is one of these files, which are given as their chunks.
+abbrev pub RegistersOf : List (List (List ℕ)) → Entry → Type 0
+RegistersOf files (Query pass hashes reply) = Unit {0}
+RegistersOf files (Register pass chunks next added) = AllByRecursion (Among (flat_map leaves_of files)) chunks
+RegistersOf files (Complete pass file added) = Unit {0}
+RegistersOf files (Flush pass shard) = Unit {0}
+RegistersOf files (Fault pass kind) = Unit {0}
 
 -- ---- metrics
 
@@ -184,7 +193,8 @@ EachTaken tells left (s ∷ ss) (t ∷ ts) (f ∷ fs) = (tells s ≡ true → le
 -- the sources after it were not read. An error that names a source names that one. There are at most three entries for each chunk
 -- of what was taken and two for each source. The files recorded are the first ones, in order, each that is not empty once; none is
 -- that of source `done`. Each of them has a plan; and if disk and sources are observable, and there are no collisions among the
--- data seen, it resolves to the file's chunks. At most one xorb, the last, was registered without further chunks.
+-- data seen, it resolves to the file's chunks. At most one xorb, the last, was registered without further chunks. If the sources are
+-- observable, each xorb has only chunks of what they had left.
 pub record IsBounded {S : Type 0} (policy : Sha256Policy) (tells : S → Bool) (left : S → List ℕ) (sources now : List S) (old new : RecordedState) (e : StoreError) : Type 0 where
   pub files : List (List ℕ)
   pub taken : EachTaken tells left sources now files
@@ -204,6 +214,7 @@ pub record IsBounded {S : Type 0} (policy : Sha256Policy) (tells : S → Bool) (
       → AllByRecursion (HasFile new.store) (map (chunking old.store.limits) (take count files))
   pub last : List (List ℕ × ℕ)
   pub registers : ClosesLast last (calls_since old new)
+  pub own : AllByRecursion (λ s. tells s ≡ true) sources → AllByRecursion (RegistersOf (chunkings left old.store.limits sources)) (entries_since old new)
 
 -- ---- errors
 

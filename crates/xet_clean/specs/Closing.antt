@@ -4,6 +4,7 @@ use Rattle.std.specs.List.{AllByRecursion, IsAmong}
 use Rattle.xet_aggregate.specs.Aggregate.{Aggregate, Pending, empty, filled, fits, merged}
 use Rattle.xet_choices.specs.Calls.{Call}
 use Rattle.xet_choices.specs.Calls.Call.{Registered}
+use Rattle.xet_dedup_queries.specs.Counting.{HasNext}
 use Rattle.xet_hash.specs.Merkle.{xorb_hash}
 use Rattle.xet_hash.specs.declared.error.StoreError.{StoreError}
 use Rattle.xet_history.specs.declared.entry.Entry.{Entry}
@@ -67,6 +68,10 @@ NoCalls calls = calls ≡ []
 -- No xorb was registered, or that of the chunks, which are not empty.
 abbrev pub RegistersAtMost : Aggregate → List (List ℕ × ℕ) → List Call → Type 0
 RegistersAtMost a next calls = (calls ≡ []) ⊎ ((a.chunks ≢ []) × (calls ≡ Registered (map chunk_leaf a.chunks) next ∷ []))
+
+-- The same, with further chunks.
+abbrev pub RegistersFull : Aggregate → List (List ℕ × ℕ) → List Call → Type 0
+RegistersFull a next calls = RegistersAtMost a next calls × AllByRecursion HasNext calls
 
 -- Why the aggregate was not closed: a step failed, or memory is out; or its xorb was registered, and one of its files was
 -- rejected. The first of its files were recorded, and the queries and registrations are such.

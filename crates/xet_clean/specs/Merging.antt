@@ -5,11 +5,13 @@ use Rattle.xet_aggregate.specs.Aggregate.{Aggregate, IsAggregate}
 use Rattle.xet_aggregate.specs.declared.metrics.DeduplicationMetrics.{DeduplicationMetrics}
 use Rattle.xet_choices.specs.Calls.{Call, queries_of, registered_chunks}
 use Rattle.xet_choices.specs.declared.choice.Choice.{Choice}
+use Rattle.xet_dedup_queries.specs.Counting.{registered_leaves}
 use Rattle.xet_hash.specs.declared.error.StoreError.{StoreError}
 use Rattle.xet_history.specs.History.{after_all}
 use Rattle.xet_history.specs.declared.entry.Entry.{Entry}
 use Rattle.xet_shard_format.specs.declared.record.MDBFileInfo.{MDBFileInfo}
 use Rattle.xet_store.specs.Holders.{Follows, Holder, calls_in, core_at}
+use Rattle.xet_store_disk.specs.Separate.{Among}
 use Rattle.xet_store_disk.specs.declared.info.XetFileInfo.{XetFileInfo}
 use Rattle.xet_xorb_chunk.specs.Chunks.{chunk_leaf}
 use Rattle.xet_clean.specs.Cleaning.{ClosesLast, RegistersFew, RegistersPart, metrics_sum}
@@ -88,7 +90,8 @@ pub record MergesAll (ps : List Part) (old new : Holder) (infos : List XetFileIn
 
 -- A record was rejected, or a step failed, when an aggregate of merged parts was closed. Each record that waited for its xorb is
 -- that of a file of one of the parts, whose segments have the hashes of its chunks. Each record that was made is that of a file of
--- one of the parts; and each xorb was registered with further chunks, but for one of these last chunks, if there are any.
+-- one of the parts; and each xorb was registered with further chunks, but for one of these last chunks, if there are any. The xorbs
+-- have only chunks of these files.
 pub record IsUnmerged (ps : List Part) (old new : Holder) (e : StoreError) : Type 0 where
   pub before : Holder
   pub follows : Follows old before
@@ -102,3 +105,4 @@ pub record IsUnmerged (ps : List Part) (old new : Holder) (e : StoreError) : Typ
   pub records : AllByRecursion (λ r. Any (λ f. IsRecordOf f r) (files_of ps)) (recorded_in all.own)
   pub last : List (List ℕ × ℕ)
   pub registers : ClosesLast last (calls_in all.own)
+  pub own : AllByRecursion (Among (flat_map (λ f. f.plan.leaves) (files_of ps))) (registered_leaves (calls_in all.own))

@@ -1,6 +1,8 @@
 -- Reading a source to its end.
 use Rattle.std.specs.Prelude.{◌≡◌, ◌<◌, ◌≤◌, ℕ, Bool, true, false, List, [], ◌∷◌, ◌++◌, length, ◌+◌, ◌*◌, suc, drop, take}
-use Rattle.std.specs.List.{AllByRecursion, sum_by}
+use Rattle.std.specs.List.{AllByRecursion, flat_map, sum_by}
+use Rattle.xet_dedup_queries.specs.Counting.{registered_leaves}
+use Rattle.xet_hash.specs.Merkle.{leaves_of}
 use Rattle.xet_hash.specs.declared.error.Place.TheVariants as place
 use Rattle.xet_hash.specs.declared.error.Reason.TheVariants.{OtherFileHash}
 use Rattle.xet_hash.specs.declared.error.StoreError.{StoreError}
@@ -9,7 +11,8 @@ use Rattle.xet_hash.specs.declared.error.What.TheVariants as what
 use Rattle.xet_io.specs.Faults.{Rose}
 use Rattle.xet_cut.specs.Chunking.{chunking}
 use Rattle.xet_aggregate.specs.Aggregate.{Aggregate, IsAggregate}
-use Rattle.xet_store_disk.specs.Cleaning.{EachTold, FailedAt, IsLongAt, RoseAt}
+use Rattle.xet_store_disk.specs.Cleaning.{EachTold, FailedAt, IsLongAt, RoseAt, chunkings}
+use Rattle.xet_store_disk.specs.Separate.{Among}
 use Rattle.xet_store.specs.Interface.{IsErrorSince}
 use Rattle.xet_store.specs.Holders.{Follows, Holder, calls_in}
 use Rattle.xet_clean.specs.Cleaning.{AreRecords, ClosesLast, EachTaken}
@@ -74,7 +77,8 @@ IsFewFor files old new =
 
 -- After an error: the sources before source `done` were read to their ends, and those after it were not read. There are at most
 -- three entries for each chunk of what was taken and two for each source. The files recorded are the first ones, in order. Each xorb
--- was registered with further chunks, but for one of these last chunks, if there are any.
+-- was registered with further chunks, but for one of these last chunks, if there are any. If the sources are observable, the xorbs
+-- have only chunks of what they had left.
 pub record IsCutShort {S : Type 0} (last : List (List ℕ × ℕ)) (policy : Sha256Policy) (tells : S → Bool) (left : S → List ℕ) (sources now : List S) (old new : Holder) (e : StoreError) : Type 0 where
   pub files : List (List ℕ)
   pub taken : EachTaken tells left sources now files
@@ -88,6 +92,7 @@ pub record IsCutShort {S : Type 0} (last : List (List ℕ × ℕ)) (policy : Sha
   pub recorded : count ≤ done
   pub records : AreRecords policy old.limits (take count files) (recorded_in few.0.own)
   pub registers : ClosesLast last (calls_in few.0.own)
+  pub own : AllByRecursion (λ s. tells s ≡ true) sources → AllByRecursion (Among (flat_map leaves_of (chunkings left old.limits sources))) (registered_leaves (calls_in few.0.own))
 
 -- the same, whatever the last chunks
 abbrev pub IsShort : {S : Type 0} → Sha256Policy → (S → Bool) → (S → List ℕ) → List S → List S → Holder → Holder → StoreError → Type 0

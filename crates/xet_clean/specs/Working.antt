@@ -7,12 +7,14 @@ use Rattle.xet_choices.specs.Calls.{registered_chunks}
 use Rattle.xet_choices.specs.Choices.{EntriesRise, hashes_of, new_chunks}
 use Rattle.xet_choices.specs.declared.choice.Choice.{Choice}
 use Rattle.xet_cut.specs.Limits.{AreInRange}
+use Rattle.xet_dedup_queries.specs.Counting.{registered_leaves}
 use Rattle.xet_dedup.specs.Records.{file_record}
 use Rattle.xet_file_plan.specs.Moves.{PlanState, counts_of}
 use Rattle.xet_file_plan.specs.Placed.{ArePlaced}
 use Rattle.xet_shard_format.specs.declared.record.FileDataSequenceEntry.{FileDataSequenceEntry as Segment}
 use Rattle.xet_shard_format.specs.declared.record.MDBFileInfo.{MDBFileInfo}
 use Rattle.xet_store_disk.specs.Cleaning.{EachTold}
+use Rattle.xet_store_disk.specs.Separate.{Among}
 use Rattle.xet_store_disk.specs.declared.info.XetFileInfo.{XetFileInfo}
 use Rattle.xet_xorb_chunk.specs.Chunks.{chunk_leaf}
 use Rattle.xet_xorb_chunk.specs.declared.chunk.Chunk.{Chunk}
@@ -65,7 +67,8 @@ Waits now chunks files file =
 -- These files were cleaned since the start, and no step failed. No entry is named by two chunks. The records of files that are not
 -- empty were made or wait for their xorb, in order, and there are no others. The chunks of the aggregate are the new ones that
 -- are in no registered xorb. What is left in the aggregate is within the limits of a xorb. Each registration had chunks that did
--- not fit, and these are in a later registration or in the aggregate.
+-- not fit, and these are in a later registration or in the aggregate. The xorbs that were registered and the aggregate have only chunks
+-- of the files.
 pub record IsWorking (start now : Holder) (files : List Planned) (infos : List XetFileInfo) (choices : List (List Choice)) (metrics : DeduplicationMetrics) (a : Aggregate) : Type 0 where
   pub follows : Follows start now
   pub going : now.stopped ≡ false
@@ -83,6 +86,7 @@ pub record IsWorking (start now : Holder) (files : List Planned) (infos : List X
   pub lands : Lands (map chunk_leaf a.chunks) (calls_in follows.own)
   pub new : registered_chunks (calls_in follows.own) + length a.chunks ≡ sum_by (λ f. new_chunks f.plan.choices) files
   pub bound : length follows.own + (2 * length a.chunks + 2 * length a.files) ≤ 3 * sum_by (λ f. length f.plan.leaves) files + 2 * length files
+  pub own : AllByRecursion (Among (flat_map (λ f. f.plan.leaves) files)) (registered_leaves (calls_in follows.own) ++ map chunk_leaf a.chunks)
 
 -- One more file was cleaned, from a state after which nothing else was done.
 pub record IsAdded (start first now : Holder) (files : List Planned) (policy : Sha256Policy) (bytes : List ℕ) (id : ℕ) (infos : List XetFileInfo) (choices : List (List Choice)) (metrics : DeduplicationMetrics) (a : Aggregate) (info : XetFileInfo) (counts : DeduplicationMetrics) (chosen : List Choice) (rest : Aggregate) : Type 0 where

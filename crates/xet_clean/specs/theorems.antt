@@ -7,6 +7,7 @@ pub mod Hashes
 pub mod InOrder
 pub mod Keeping
 pub mod Nexts
+pub mod Owning
 pub mod Recorded
 pub mod Records
 pub mod Refusing

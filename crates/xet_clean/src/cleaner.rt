@@ -4,7 +4,7 @@ ghost use Rattle.std.specs.Prelude.{◌≡◌, ◌++◌, ◌+◌, ◌≤◌, [],
 ghost use Rattle.std.specs.List.{AllByRecursion};
 ghost use Rattle.std.specs.Option.{ForSome};
 ghost use Rattle.xet_store.specs.Interface.{IsErrorSince, Stands};
-ghost use Rattle.xet_clean.specs.Planning.{IsFew, IsFinished, IsPlanned};
+ghost use Rattle.xet_clean.specs.Planning.{IsFew, IsFinished, IsPlanned, RegistersOnly};
 ghost use Rattle.xet_store.specs.Holders.{FollowsAsking, calls_of, core_at, xorb_limits, lengths_in};
 ghost use Rattle.xet_clean.specs.Cleaner.{IsBatchOf, IsCleaning, IsCleaningBytes, IsCleaningSome, StopsInBatch};
 ghost use Rattle.xet_clean.specs.Errors.{IsCleanerError};
@@ -94,6 +94,8 @@ impl<S: Stepping> FileCleaner<S> {
         ensures follows { FollowsAsking (S.holder self.old.deduper.interface.steps) (S.holder self.new.deduper.interface.steps) }
         ensures few { (before : List ℕ) → IsCleaning (S.holder self.old.deduper.start.value.steps) (S.holder self.old.deduper.interface.steps) self.old.deduper.whole self.old.deduper.plan self.old.deduper.global self.old.chunker self.old.byte_count before
             → OnErr result (IsFew (S.holder self.new.deduper.start.value.steps) (S.holder self.new.deduper.interface.steps) (before ++ bytes.now)) }
+        ensures own { (before rest : List ℕ) → IsCleaning (S.holder self.old.deduper.start.value.steps) (S.holder self.old.deduper.interface.steps) self.old.deduper.whole self.old.deduper.plan self.old.deduper.global self.old.chunker self.old.byte_count before
+            → OnErr result (RegistersOnly (S.holder self.new.deduper.start.value.steps) (S.holder self.new.deduper.interface.steps) ((before ++ bytes.now) ++ rest)) }
         ensures refused { IfErr result (IsCleanerError self.old.number self.old.byte_count bytes.now (S.holder self.old.deduper.interface.steps) (S.holder self.new.deduper.interface.steps)) }
     {
         self.add_piece(bytes, None)
@@ -108,6 +110,8 @@ impl<S: Stepping> FileCleaner<S> {
         ensures follows { FollowsAsking (S.holder self.old.deduper.interface.steps) (S.holder self.new.deduper.interface.steps) }
         ensures few { (before : List ℕ) → IsCleaning (S.holder self.old.deduper.start.value.steps) (S.holder self.old.deduper.interface.steps) self.old.deduper.whole self.old.deduper.plan self.old.deduper.global self.old.chunker self.old.byte_count before
             → OnErr result (IsFew (S.holder self.new.deduper.start.value.steps) (S.holder self.new.deduper.interface.steps) (before ++ bytes.now)) }
+        ensures own { (before rest : List ℕ) → IsCleaning (S.holder self.old.deduper.start.value.steps) (S.holder self.old.deduper.interface.steps) self.old.deduper.whole self.old.deduper.plan self.old.deduper.global self.old.chunker self.old.byte_count before
+            → OnErr result (RegistersOnly (S.holder self.new.deduper.start.value.steps) (S.holder self.new.deduper.interface.steps) ((before ++ bytes.now) ++ rest)) }
         ensures refused { IfErr result (IsCleanerError self.old.number self.old.byte_count bytes.now (S.holder self.old.deduper.interface.steps) (S.holder self.new.deduper.interface.steps)) }
     {
         self.add_piece(bytes.as_slice(), Some(bytes))
@@ -123,6 +127,8 @@ impl<S: Stepping> FileCleaner<S> {
         ensures follows { FollowsAsking (S.holder self.old.deduper.interface.steps) (S.holder self.new.deduper.interface.steps) }
         ensures few { (before : List ℕ) → IsCleaning (S.holder self.old.deduper.start.value.steps) (S.holder self.old.deduper.interface.steps) self.old.deduper.whole self.old.deduper.plan self.old.deduper.global self.old.chunker self.old.byte_count before
             → OnErr result (IsFew (S.holder self.new.deduper.start.value.steps) (S.holder self.new.deduper.interface.steps) (before ++ bytes.now)) }
+        ensures own { (before rest : List ℕ) → IsCleaning (S.holder self.old.deduper.start.value.steps) (S.holder self.old.deduper.interface.steps) self.old.deduper.whole self.old.deduper.plan self.old.deduper.global self.old.chunker self.old.byte_count before
+            → OnErr result (RegistersOnly (S.holder self.new.deduper.start.value.steps) (S.holder self.new.deduper.interface.steps) ((before ++ bytes.now) ++ rest)) }
         ensures refused { IfErr result (IsCleanerError self.old.number self.old.byte_count bytes.now (S.holder self.old.deduper.interface.steps) (S.holder self.new.deduper.interface.steps)) }
     {
         let most = self.deduper.interface.steps.limits().max_source_bytes();
@@ -150,6 +156,8 @@ impl<S: Stepping> FileCleaner<S> {
             → IfOk result.1 (λ f. IsFinished (S.holder self.deduper.start.value.steps) (S.holder result.0.steps) self.deduper.file_id sha256 bytes f.info f.metrics f.choices f.rest) }
         ensures few { (bytes : List ℕ) → IsCleaning (S.holder self.deduper.start.value.steps) (S.holder self.deduper.interface.steps) self.deduper.whole self.deduper.plan self.deduper.global self.chunker self.byte_count bytes
             → OnErr result.1 (IsFew (S.holder self.deduper.start.value.steps) (S.holder result.0.steps) bytes) }
+        ensures own { (bytes : List ℕ) → IsCleaning (S.holder self.deduper.start.value.steps) (S.holder self.deduper.interface.steps) self.deduper.whole self.deduper.plan self.deduper.global self.chunker self.byte_count bytes
+            → OnErr result.1 (RegistersOnly (S.holder self.deduper.start.value.steps) (S.holder result.0.steps) bytes) }
         ensures follows { FollowsAsking (S.holder self.deduper.interface.steps) (S.holder result.0.steps) }
         ensures refused { IfErr result.1 (IsErrorSince (S.holder self.deduper.interface.steps) (S.holder result.0.steps)) }
     {
@@ -198,6 +206,8 @@ pub fn add_block<S: Stepping, H: FileDigest>(
     ensures follows { FollowsAsking (S.holder cleaner.old.deduper.interface.steps) (S.holder cleaner.new.deduper.interface.steps) }
     ensures few { (before : List ℕ) → IsCleaning (S.holder cleaner.old.deduper.start.value.steps) (S.holder cleaner.old.deduper.interface.steps) cleaner.old.deduper.whole cleaner.old.deduper.plan cleaner.old.deduper.global cleaner.old.chunker cleaner.old.byte_count before
         → OnErr result (IsFew (S.holder cleaner.new.deduper.start.value.steps) (S.holder cleaner.new.deduper.interface.steps) (before ++ block)) }
+    ensures own { (before rest : List ℕ) → IsCleaning (S.holder cleaner.old.deduper.start.value.steps) (S.holder cleaner.old.deduper.interface.steps) cleaner.old.deduper.whole cleaner.old.deduper.plan cleaner.old.deduper.global cleaner.old.chunker cleaner.old.byte_count before
+        → OnErr result (RegistersOnly (S.holder cleaner.new.deduper.start.value.steps) (S.holder cleaner.new.deduper.interface.steps) ((before ++ block) ++ rest)) }
     ensures refused { IfErr result (IsCleanerError cleaner.old.number cleaner.old.byte_count block (S.holder cleaner.old.deduper.interface.steps) (S.holder cleaner.new.deduper.interface.steps)) }
 {
     add_by(digest, policy, &block);
@@ -241,7 +251,7 @@ fn place<S: Stepping>(
     ensures follows { FollowsAsking (S.holder deduper.old.interface.steps) (S.holder deduper.new.interface.steps) }
     ensures passed { OnOk result ((S.holder deduper.new.interface.steps).stopped ≡ (S.holder deduper.old.interface.steps).stopped) }
     ensures placed { OnOk result (IsBatchOf (map chunk_leaf chunks.now) (map chunk_leaf deduper.old.plan.block) (map chunk_leaf deduper.new.plan.block) (S.holder deduper.old.interface.steps) (S.holder deduper.new.interface.steps)) }
-    ensures stopped { OnErr result (StopsInBatch (map chunk_leaf chunks.now) (length deduper.old.plan.block) (S.holder deduper.old.interface.steps) (S.holder deduper.new.interface.steps)) }
+    ensures stopped { OnErr result (StopsInBatch (map chunk_leaf chunks.now) (map chunk_leaf deduper.old.plan.block) (S.holder deduper.old.interface.steps) (S.holder deduper.new.interface.steps)) }
     ensures refused { IfErr result (IsErrorSince (S.holder deduper.old.interface.steps) (S.holder deduper.new.interface.steps)) }
 {
     deduper.plan.recall_invariant();
@@ -264,6 +274,8 @@ fn place_last<S: Stepping>(
         → OnOk result (IsPlanned (S.holder deduper.new.start.value.steps) (S.holder deduper.new.interface.steps) bytes deduper.new.plan) }
     ensures few { (bytes : List ℕ) → IsCleaningBytes (S.holder deduper.old.start.value.steps) (S.holder deduper.old.interface.steps) deduper.old.whole deduper.old.plan deduper.old.global chunker.old bytes
         → OnErr result (IsFew (S.holder deduper.new.start.value.steps) (S.holder deduper.new.interface.steps) bytes) }
+    ensures own { (bytes : List ℕ) → IsCleaningBytes (S.holder deduper.old.start.value.steps) (S.holder deduper.old.interface.steps) deduper.old.whole deduper.old.plan deduper.old.global chunker.old bytes
+        → OnErr result (RegistersOnly (S.holder deduper.new.start.value.steps) (S.holder deduper.new.interface.steps) bytes) }
     ensures whole { OnOk result ((deduper.new.whole ≡ true) × (deduper.new.global ≡ (0, 0))) }
     ensures same { (deduper.new.start.value ≡ deduper.old.start.value) × (deduper.new.file_id ≡ deduper.old.file_id) }
     ensures follows { FollowsAsking (S.holder deduper.old.interface.steps) (S.holder deduper.new.interface.steps) }

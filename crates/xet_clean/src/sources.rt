@@ -1,16 +1,14 @@
 //! The sources are read in turn, and what was made of each file is added.
 
 ghost use Rattle.std.specs.Prelude.{◌≡◌, ◌≤◌, ◌<◌, ◌+◌, ◌*◌, ◌^◌, ◌++◌, ◌∷◌, [], ℕ, Err, List, IfErr, IfOk, IsErr, IsOkUnless, OnErr, OnOk, length, map, vec_capacity, vec_len, true, false};
-ghost use Rattle.std.specs.List.{AllByRecursion};
 ghost use Rattle.xet_aggregate.specs.Aggregate.{empty};
 ghost use Rattle.xet_aggregate.specs.Metrics.{zeros};
 ghost use Rattle.xet_clean.specs.Cleaner.{IsCleaning};
-ghost use Rattle.xet_clean.specs.Closing.{IsAtMost, IsUnclosed};
-ghost use Rattle.xet_clean.specs.Planning.{IsFew, IsFinished};
+ghost use Rattle.xet_clean.specs.Closing.{IsAtMost, IsUnclosed, RegistersFull};
+ghost use Rattle.xet_clean.specs.Planning.{IsFew, IsFinished, RegistersOnly};
 ghost use Rattle.xet_clean.specs.Policies.{IfComputed, sha256_by};
 ghost use Rattle.xet_clean.specs.Sources.{HasCleaned, IsCutShort, IsLoopError, IsSourceError, Takes};
 ghost use Rattle.xet_clean.specs.Working.{IsAdded, IsWorking, Planned};
-ghost use Rattle.xet_dedup_queries.specs.Counting.{HasNext};
 ghost use Rattle.xet_file_plan.specs.Moves.{PlanState};
 ghost use Rattle.xet_io.specs.Frame.{Stays};
 ghost use Rattle.xet_store.specs.Holders.{Follows, FollowsAsking, Holder};
@@ -87,7 +85,7 @@ pub(crate) fn keep<S: Stepping>(
     ensures grown { OnOk result ((vec_len working.new.cleaned.infos ≡ vec_len working.old.cleaned.infos + 1) × (vec_len working.new.cleaned.choices ≡ vec_len working.old.cleaned.choices + 1)) }
     ensures follows { Follows (S.holder steps.old) (S.holder steps.new) }
     ensures few { IsAtMost (2 * length working.old.aggregate.chunks + 2 * length working.old.aggregate.files) (S.holder steps.old) (S.holder steps.new) }
-    ensures refused { IfErr result (λ e. IfOk file (λ f. IsUnclosed (AllByRecursion HasNext) working.old.aggregate (map chunk_leaf f.rest.chunks) (S.holder steps.old) (S.holder steps.new) e)) }
+    ensures refused { IfErr result (λ e. IfOk file (λ f. IsUnclosed (RegistersFull working.old.aggregate (map chunk_leaf f.rest.chunks)) working.old.aggregate (map chunk_leaf f.rest.chunks) (S.holder steps.old) (S.holder steps.new) e)) }
     ensures kept { IfErr file (λ e. (result ≡ Err e) × (S.holder steps.new ≡ S.holder steps.old)) }
 {
     match file {
@@ -108,6 +106,7 @@ pub(crate) fn clean_source<S: Stepping, R: Source, H: FileDigest>(
 ) -> (Asking<S>, Result<FinishedFile, StoreError>)
     ensures finished { IfOk result.1 (λ f. (bytes : List ℕ) × Takes true (R.tells source.old) (R.left source.old) (R.left source.new) bytes × IsFinished (S.holder asking.steps) (S.holder result.0.steps) number (sha256_by policy.now bytes) bytes f.info f.metrics f.choices f.rest) }
     ensures few { OnErr result.1 ((bytes : List ℕ) × Takes false (R.tells source.old) (R.left source.old) (R.left source.new) bytes × IsFew (S.holder asking.steps) (S.holder result.0.steps) bytes) }
+    ensures own { OnErr result.1 (R.tells source.old ≡ true → RegistersOnly (S.holder asking.steps) (S.holder result.0.steps) (R.left source.old)) }
     ensures follows { FollowsAsking (S.holder asking.steps) (S.holder result.0.steps) }
     ensures frame { Stays R.tells R.faults source.old source.new }
     ensures refused { IfErr result.1 (IsSourceError number (R.tells source.old) (R.left source.old) (R.faults source.old) (R.faults source.new) (S.holder asking.steps) (S.holder result.0.steps)) }
@@ -138,6 +137,7 @@ fn read_into<S: Stepping, R: Source, H: FileDigest>(
     requires number { cleaner.old.number ≡ number }
     ensures cleaning { OnOk result ((bytes : List ℕ) × Takes true (R.tells source.old) (R.left source.old) (R.left source.new) bytes × IsCleaning (S.holder cleaner.new.deduper.start.value.steps) (S.holder cleaner.new.deduper.interface.steps) cleaner.new.deduper.whole cleaner.new.deduper.plan cleaner.new.deduper.global cleaner.new.chunker cleaner.new.byte_count bytes × IfComputed policy.now (H.has digest.new bytes)) }
     ensures few { OnErr result ((bytes : List ℕ) × Takes false (R.tells source.old) (R.left source.old) (R.left source.new) bytes × IsFew (S.holder cleaner.new.deduper.start.value.steps) (S.holder cleaner.new.deduper.interface.steps) bytes) }
+    ensures own { OnErr result (R.tells source.old ≡ true → RegistersOnly (S.holder cleaner.new.deduper.start.value.steps) (S.holder cleaner.new.deduper.interface.steps) (R.left source.old)) }
     ensures same { (cleaner.new.deduper.start.value ≡ cleaner.old.deduper.start.value) × (cleaner.new.deduper.file_id ≡ cleaner.old.deduper.file_id) }
     ensures follows { FollowsAsking (S.holder cleaner.old.deduper.interface.steps) (S.holder cleaner.new.deduper.interface.steps) }
     ensures frame { Stays R.tells R.faults source.old source.new }

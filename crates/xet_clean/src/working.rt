@@ -1,17 +1,15 @@
 //! `Working`: the files of sources are cleaned in turn, with one open aggregate.
 
 ghost use Rattle.std.specs.Prelude.{◌≡◌, ◌≤◌, ◌+◌, ◌*◌, ◌++◌, ◌∷◌, [], ℕ, List, IfErr, IfOk, IsOkUnless, OnOk, length, map, vec_capacity, vec_len};
-ghost use Rattle.std.specs.List.{AllByRecursion};
 ghost use Rattle.xet_aggregate.specs.Aggregate.{IsAggregate, empty};
 ghost use Rattle.xet_aggregate.specs.Metrics.{zeros};
 ghost use Rattle.xet_clean.specs.Planning.{IsWithin};
 ghost use Rattle.xet_store.specs.Holders.{Follows, Holder};
-ghost use Rattle.xet_clean.specs.Closing.{Closes, HaveForm, IsAtMost, IsUnclosed, Joins, RegistersAtMost};
+ghost use Rattle.xet_clean.specs.Closing.{Closes, HaveForm, IsAtMost, IsUnclosed, Joins, RegistersAtMost, RegistersFull};
 ghost use Rattle.xet_clean.specs.internal.Sums.{HasRoom};
 ghost use Rattle.xet_clean.specs.Working.{IsAdded, IsWorking, Planned};
 ghost use Rattle.xet_cut.specs.Limits.{AreInRange};
 ghost use Rattle.xet_dedup.specs.Deduping.{metrics_of_both};
-ghost use Rattle.xet_dedup_queries.specs.Counting.{HasNext};
 ghost use Rattle.xet_file_plan.specs.Moves.{PlanState};
 ghost use Rattle.xet_xorb_chunk.specs.Chunks.{chunk_leaf};
 
@@ -65,7 +63,7 @@ impl Working {
         ensures grown { OnOk result ((vec_len self.new.cleaned.infos ≡ vec_len self.old.cleaned.infos + 1) × (vec_len self.new.cleaned.choices ≡ vec_len self.old.cleaned.choices + 1)) }
         ensures follows { Follows (S.holder steps.old) (S.holder steps.new) }
         ensures few { IsAtMost (2 * length self.old.aggregate.chunks + 2 * length self.old.aggregate.files) (S.holder steps.old) (S.holder steps.new) }
-        ensures refused { IfErr result (IsUnclosed (AllByRecursion HasNext) self.old.aggregate (map chunk_leaf file.rest.chunks) (S.holder steps.old) (S.holder steps.new)) }
+        ensures refused { IfErr result (IsUnclosed (RegistersFull self.old.aggregate (map chunk_leaf file.rest.chunks)) self.old.aggregate (map chunk_leaf file.rest.chunks) (S.holder steps.old) (S.holder steps.new)) }
     {
         let FinishedFile {
             info,
@@ -99,7 +97,7 @@ impl Working {
         ensures metrics { OnOk result (self.new.cleaned.metrics ≡ metrics_of_both self.old.cleaned.metrics part.cleaned.metrics) }
         ensures follows { Follows (S.holder steps.old) (S.holder steps.new) }
         ensures few { IsAtMost (2 * length self.old.aggregate.chunks + 2 * length self.old.aggregate.files) (S.holder steps.old) (S.holder steps.new) }
-        ensures refused { IfErr result (IsUnclosed (AllByRecursion HasNext) self.old.aggregate (map chunk_leaf part.aggregate.chunks) (S.holder steps.old) (S.holder steps.new)) }
+        ensures refused { IfErr result (IsUnclosed (RegistersFull self.old.aggregate (map chunk_leaf part.aggregate.chunks)) self.old.aggregate (map chunk_leaf part.aggregate.chunks) (S.holder steps.old) (S.holder steps.new)) }
     {
         let Working {
             alloc: _,
@@ -119,7 +117,7 @@ impl Working {
         ensures same { self.new.cleaned ≡ self.old.cleaned }
         ensures follows { Follows (S.holder steps.old) (S.holder steps.new) }
         ensures few { IsAtMost (2 * length self.old.aggregate.chunks + 2 * length self.old.aggregate.files) (S.holder steps.old) (S.holder steps.new) }
-        ensures refused { IfErr result (IsUnclosed (AllByRecursion HasNext) self.old.aggregate (map chunk_leaf rest.chunks) (S.holder steps.old) (S.holder steps.new)) }
+        ensures refused { IfErr result (IsUnclosed (RegistersFull self.old.aggregate (map chunk_leaf rest.chunks)) self.old.aggregate (map chunk_leaf rest.chunks) (S.holder steps.old) (S.holder steps.new)) }
     {
         if !self.aggregate.fits(&rest, steps.limits()) {
             let next = chunk_leaves(self.alloc, rest.chunks())?;

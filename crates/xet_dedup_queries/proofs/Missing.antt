@@ -7,6 +7,7 @@ use Rattle.std.proofs.lemmas.List.Elements.{Contains-append_right, Contains-push
 use Rattle.std.proofs.lemmas.Option.{slice_get-map, slice_get_within}
 use Rattle.xet_choices.specs.Calls.{Call, IsAskedIn, entries_of}
 use Rattle.xet_choices.specs.Calls.Call.{Asked}
+use Rattle.xet_choices.specs.theorems.Calls.{entries_of-append}
 use Rattle.xet_dedup_queries.specs.Acts.{Act, Found}
 use Rattle.xet_dedup_queries.specs.Acts.Act.{Queried}
 use Rattle.xet_dedup_queries.specs.Asking.{PassesTo, begun, is_worth_asking, kept_found, new_runs}
@@ -197,14 +198,14 @@ pub missed_step : (listing grown : List ℕ → Option (List ℕ)) (standing sta
     → (round : Round) (hashes : List (List ℕ)) (began : Began) (calls after : List Call) (acts acts_after : List Act) (places : List Place) (at chunks bytes entry last : ℕ) (first : List ℕ) (old : Place)
     → IsPassing listing standing round hashes began calls acts places at chunks bytes → slice_get hashes at ≡ Some first → slice_get (map kept_found places) at ≡ Some None
     → slice_get places at ≡ Some old → after ≡ calls ++ asked entry (drop at hashes) None → acts_after ≡ acts ++ Queried (drop at hashes) None ∷ begun round at first → All (λ n. n < entry) (entries_of calls)
-    → ((b : List Call) (e : ℕ) (hs : List (List ℕ)) (r : Option ℕ) → after ≡ b ++ Asked e hs r ∷ [] → last ≡ e)
+    → ((b : List ℕ) (e : ℕ) → entries_of after ≡ b ++ e ∷ [] → last ≡ e)
     → IsPassing grown stands_now round hashes began after acts_after (set places at (missed last old)) (at + 1) chunks bytes
 missed_step listing grown standing stands_now lists stands round hashes began calls after acts acts_after places at chunks bytes entry last first old was begins_with free here calls_are acts_are above latest =
     let rest = drop_from hashes at first begins_with in
     let one : after ≡ calls ++ Asked entry (take 1 (drop at hashes)) None ∷ [] = calls_are ∙ ap (λ (c : List Call). calls ++ c) (asked_one entry (drop at hashes) None first (drop (suc at) hashes) rest) in
     let mapped = get_mapped kept_found places at None free in
     let none : kept_found old ≡ None = ap kept_found (same_at (slice_get places at) old mapped.0 here mapped.1) ∙ mapped.2 in
-    subst (λ (n : ℕ). IsPassing grown stands_now round hashes began after acts_after (set places at (missed n old)) (at + 1) chunks bytes) (sym (latest calls entry (take 1 (drop at hashes)) None one))
+    subst (λ (n : ℕ). IsPassing grown stands_now round hashes began after acts_after (set places at (missed n old)) (at + 1) chunks bytes) (sym (latest (entries_of calls) entry (ap entries_of one ∙ entries_of-append calls (Asked entry (take 1 (drop at hashes)) None ∷ []))))
     (passing_missed listing grown standing stands_now lists stands round hashes began calls acts places at chunks bytes was after acts_after entry first old begins_with here none one acts_are above)
 
 module _ (listing : List ℕ → Option (List ℕ)) (standing : List (List ℕ) → Segment → Type 0) (round : Round) (hashes : List (List ℕ)) (began : Began) (calls : List Call) (acts : List Act) (places : List Place) (at chunks bytes : ℕ) (was : IsPassing listing standing round hashes began calls acts places at chunks bytes) where

@@ -74,9 +74,9 @@ pub trait DeduplicationDataInterface {
         ensures failed { OnErr result (failed self.new ≡ true) }
         ensures extends { Extends lists stands refused cut_limits self.old self.new };
 
-    /// The number of the history entry of the latest query.
+    /// The number of the history entry of the latest query, whatever came after it. If there was none it is any number.
     fn last_query(&self) -> u64
-        ensures { (before : List Call) (entry : ℕ) (hashes : List (List ℕ)) (reply : Option ℕ) → calls self.now ≡ before ++ Call.Asked entry hashes reply ∷ [] → result ≡ entry };
+        ensures { (before : List ℕ) (entry : ℕ) → entries_of (calls self.now) ≡ before ++ entry ∷ [] → result ≡ entry };
 
     /// Begins a query for a chunk hash elsewhere.
     fn register_global_dedup_query(&mut self, hash: MerkleHash) -> Result<(), Self::ErrorType>

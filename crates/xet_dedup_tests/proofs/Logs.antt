@@ -1,8 +1,7 @@
 -- Logs, call by call.
-use Rattle.std.proofs.Common.{◌≡◌, ◌∙◌, ◌≢◌, ℕ, suc, ◌+◌, ◌<◌, ◌≤◌, ◌==◌, Bool, false, true≢false, List, [], ◌∷◌, ◌++◌, length, take, Option, Some, All, refl, sym, ap, arith}
+use Rattle.std.proofs.Common.{◌≡◌, ◌∙◌, ◌≢◌, ℕ, suc, zero, ◌+◌, ◌<◌, ◌≤◌, ◌==◌, Bool, false, true≢false, List, [], ◌∷◌, ◌++◌, length, take, drop, Option, Some, All, refl, sym, ap, subst, arith}
 use Rattle.std.proofs.lemmas.List.{append-nil}
 use Rattle.std.specs.List.{AllByRecursion, slice_get}
-use Rattle.std.proofs.lemmas.Option.{same_Some}
 use Rattle.std.proofs.lemmas.List.Elements.{All-from_recursion}
 use Rattle.xet_choices.specs.Calls.{Call, entries_of}
 use Rattle.xet_choices.specs.Calls.Call.{Asked as AskedCall}
@@ -17,23 +16,6 @@ calls_from-push n [] c = ap (λ (m : ℕ). call_at m c ∷ []) (omega arith)
 calls_from-push n (x ∷ cs) c =
     ap (λ (l : List Call). call_at n x ∷ l) (calls_from-push (suc n) cs c ∙ ap (λ (m : ℕ). calls_from (suc n) cs ++ call_at m c ∷ []) (omega arith))
 
--- the last call
-pub last_call : (n : ℕ) (cs : List LoggedCall) (before : List Call) (c : Call) → calls_from n cs ≡ before ++ c ∷ [] → (k : ℕ) × (x : LoggedCall) × (length cs ≡ suc k) × (slice_get cs k ≡ Some x) × (call_at (n + k) x ≡ c)
-last_call n [] [] c is = absurd cc
-last_call n [] (b ∷ before) c is = absurd cc
-last_call n (x ∷ []) [] c is = (0, x, refl, refl, first)
-  where
-    same : n + 0 ≡ n
-    same = omega arith
-
-    first : call_at (n + 0) x ≡ c
-    first = ap (λ (m : ℕ). call_at m x) same ∙ cc
-last_call n (x ∷ y ∷ cs) [] c is = absurd cc
-last_call n (x ∷ cs) (b ∷ before) c is =
-    let l = last_call (suc n) cs before c cc in
-    let same : n + suc l.0 ≡ suc n + l.0 = omega arith in
-    (suc l.0, l.1, ap suc l.2, l.3, ap (λ (m : ℕ). call_at m l.1) same ∙ l.4)
-
 -- entries are indices
 within : (n bound : ℕ) (cs : List LoggedCall) → n + length cs ≤ bound → AllByRecursion (λ m. m < bound) (entries_of (calls_from n cs))
 within n bound [] le = tt
@@ -43,26 +25,62 @@ within n bound (Registered leaves next ∷ cs) le = within (suc n) bound cs (ome
 pub entries_within : (cs : List LoggedCall) → All (λ m. m < length cs) (entries_of (calls_from 0 cs))
 entries_within cs = All-from_recursion (λ m. m < length cs) (entries_of (calls_from 0 cs)) (within 0 (length cs) cs (omega arith))
 
--- If the last call is a query, its entry is the last index; the call that is logged at the last index is no other.
-pub last_entry : (cs : List LoggedCall) (before : List Call) (entry : ℕ) (hashes : List (List ℕ)) (reply : Option ℕ) → calls_from 0 cs ≡ before ++ AskedCall entry hashes reply ∷ [] → length cs ≡ suc entry
-last_entry cs before entry hashes reply is = let l = last_call 0 cs before (AskedCall entry hashes reply) is in by l.0 l.1 l.2 l.4
-  where
-    by : (k : ℕ) (x : LoggedCall) → length cs ≡ suc k → call_at (0 + k) x ≡ AskedCall entry hashes reply → length cs ≡ suc entry
-    by k (Asked f r) e same = let entries : 0 + k ≡ entry = cc in omega (arith, e, entries)
-    by k (Registered leaves next) e same = absurd cc
+-- ---- the latest query
 
-pub not_last : (cs : List LoggedCall) (before : List Call) (entry at : ℕ) (hashes : List (List ℕ)) (reply : Option ℕ) (x : LoggedCall) → calls_from 0 cs ≡ before ++ AskedCall entry hashes reply ∷ [] → length cs ≡ suc at
-    → slice_get cs at ≡ Some x → ((hs : List (List ℕ)) (r : Option ℕ) → x ≢ Asked hs r) → ⊥
-not_last cs before entry at hashes reply x is e here other = let l = last_call 0 cs before (AskedCall entry hashes reply) is in by l.0 l.1 l.2 l.3 l.4
-  where
-    with : (y : LoggedCall) → x ≡ y → (k : ℕ) → call_at k y ≡ AskedCall entry hashes reply → ⊥
-    with (Asked f r) same k call = other f r same
-    with (Registered leaves next) same k call = absurd cc
+abbrev pub IsOther : LoggedCall → Type 0
+IsOther (Asked hashes reply) = ⊥
+IsOther (Registered leaves next) = Unit {0}
 
-    by : (k : ℕ) (y : LoggedCall) → length cs ≡ suc k → slice_get cs k ≡ Some y → call_at (0 + k) y ≡ AskedCall entry hashes reply → ⊥
-    by k y long there call =
-        let index : at ≡ k = omega (arith, e, long) in
-        with y (same_Some x y (sym here ∙ ap (slice_get cs) index ∙ there)) (0 + k) call
+pub other_call : (x : LoggedCall) → ((hashes : List (List ℕ)) (reply : Option ℕ) → x ≢ Asked hashes reply) → IsOther x
+other_call (Asked hashes reply) other = other hashes reply refl
+other_call (Registered leaves next) other = tt
+
+-- one call more is no query
+pub other_from : (cs : List LoggedCall) (at : ℕ) (x : LoggedCall) → slice_get cs at ≡ Some x → IsOther x → AllByRecursion IsOther (drop (suc at) cs) → AllByRecursion IsOther (drop at cs)
+other_from [] at x here other rest = absurd (cc here)
+other_from (c ∷ cs) zero x here other rest = let same : c ≡ x = cc here in (subst IsOther (sym same) other, rest)
+other_from (c ∷ cs) (suc at) x here other rest = other_from cs at x here other rest
+
+no_entries : (n : ℕ) (cs : List LoggedCall) → AllByRecursion IsOther cs → entries_of (calls_from n cs) ≡ []
+no_entries n [] others = refl
+no_entries n (Asked hashes reply ∷ cs) others = absurd others.0
+no_entries n (Registered leaves next ∷ cs) others = no_entries (suc n) cs others.1
+
+no_entry : (before : List ℕ) (entry : ℕ) → [] ≡ before ++ entry ∷ [] → ⊥
+no_entry [] entry is = cc is
+no_entry (b ∷ before) entry is = cc is
+
+same_last : (xs ys : List ℕ) (x y : ℕ) → xs ++ x ∷ [] ≡ ys ++ y ∷ [] → x ≡ y
+same_last [] [] x y is = cc is
+same_last [] (b ∷ ys) x y is = let rest : [] ≡ ys ++ y ∷ [] = cc is in absurd (no_entry ys y rest)
+same_last (a ∷ xs) [] x y is = let rest : [] ≡ xs ++ x ∷ [] = cc is in absurd (no_entry xs x rest)
+same_last (a ∷ xs) (b ∷ ys) x y is = same_last xs ys x y (cc is)
+
+-- A query after which there is none has the last one of the entries.
+ends_at : (n at : ℕ) (cs : List LoggedCall) (hashes : List (List ℕ)) (reply : Option ℕ) → slice_get cs at ≡ Some (Asked hashes reply) → AllByRecursion IsOther (drop (suc at) cs)
+    → (before : List ℕ) × (entries_of (calls_from n cs) ≡ before ++ (n + at) ∷ [])
+ends_at n at [] hashes reply here rest = absurd (cc here)
+ends_at n zero (c ∷ cs) hashes reply here rest =
+    let same : c ≡ Asked hashes reply = cc here in
+    let first : n ≡ n + 0 = omega arith in
+    ([], ap (λ (x : LoggedCall). entries_of (calls_from n (x ∷ cs))) same ∙ ap (λ (es : List ℕ). n ∷ es) (no_entries (suc n) cs rest) ∙ ap (λ (m : ℕ). m ∷ []) first)
+ends_at n (suc at) (Asked hs r ∷ cs) hashes reply here rest =
+    let e = ends_at (suc n) at cs hashes reply here rest in
+    let same : suc n + at ≡ n + suc at = omega arith in
+    (n ∷ e.0, ap (λ (es : List ℕ). n ∷ es) e.1 ∙ ap (λ (m : ℕ). n ∷ (e.0 ++ m ∷ [])) same)
+ends_at n (suc at) (Registered leaves next ∷ cs) hashes reply here rest =
+    let e = ends_at (suc n) at cs hashes reply here rest in
+    let same : suc n + at ≡ n + suc at = omega arith in
+    (e.0, e.1 ∙ ap (λ (m : ℕ). e.0 ++ m ∷ []) same)
+
+pub latest_at : (cs : List LoggedCall) (at : ℕ) (x : LoggedCall) → slice_get cs at ≡ Some x → (IsOther x → ⊥) → AllByRecursion IsOther (drop (suc at) cs) → (before : List ℕ) (entry : ℕ) → entries_of (calls_from 0 cs) ≡ before ++ entry ∷ [] → at ≡ entry
+latest_at cs at (Asked hashes reply) here asked rest before entry ends =
+    let e = ends_at 0 at cs hashes reply here rest in
+    omega (arith, same_last e.0 before (0 + at) entry (sym e.1 ∙ ends))
+latest_at cs at (Registered leaves next) here asked rest before entry ends = absurd (asked tt)
+
+pub none_latest : (cs : List LoggedCall) → AllByRecursion IsOther cs → (before : List ℕ) (entry : ℕ) → entries_of (calls_from 0 cs) ≡ before ++ entry ∷ [] → ⊥
+none_latest cs others before entry ends = no_entry before entry (sym (no_entries 0 cs others) ∙ ends)
 
 -- one more call of a whole log
 pub logged : (cs : List LoggedCall) (c : LoggedCall) → calls_from 0 (cs ++ c ∷ []) ≡ calls_from 0 cs ++ call_at (length cs) c ∷ []

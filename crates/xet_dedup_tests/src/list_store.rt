@@ -343,7 +343,7 @@ fn count_of(found: &Option<(usize, FileDataSequenceEntry, bool)>) -> Option<usiz
 
 /// The index of the last query of a log; 0 if there is none.
 fn last_query_of(log: &[LoggedCall]) -> u64
-    ensures { (before : List Call) (entry : ℕ) (hashes : List (List ℕ)) (reply : Option ℕ) → calls_from 0 log.now ≡ before ++ Call.Asked entry hashes reply ∷ [] → result ≡ entry }
+    ensures { (before : List ℕ) (entry : ℕ) → entries_of (calls_from 0 log.now) ≡ before ++ entry ∷ [] → result ≡ entry }
 {
     let mut at = log.len();
     while at > 0 {

@@ -5,13 +5,11 @@ use Rattle.std.proofs.lemmas.List.Sums.{sum_by-cons}
 use Rattle.xet_base.specs.Pieces.{pieces_after}
 use Rattle.xet_cut.specs.Chunking.{chunking, first_chunk_len}
 use Rattle.xet_cut.specs.Limits.{AreInRange}
-use Rattle.xet_cut.specs.Streams.{IsBlock, IsSplit, Splitting}
+use Rattle.xet_cut.specs.Streams.{IsSplit, Splitting}
 use Rattle.xet_cut.specs.declared.limits.LimitSettings.{LimitSettings}
 use Rattle.xet_cut.specs.theorems.FirstBoundary.{none_in_nothing}
 use Rattle.xet_cut.specs.theorems.Parts.{first_chunk_len_within}
 use Rattle.xet_hash.specs.Merkle.{file_hash, leaf_of, leaves_of, total_len}
-use Rattle.xet_xorb_chunk.specs.Chunks.{chunk_leaf, chunk_of}
-use Rattle.xet_xorb_chunk.specs.declared.chunk.Chunk.{Chunk}
 use Rattle.xet_store_disk.specs.declared.info.XetFileInfo.{XetFileInfo}
 use Rattle.xet_hash_files.specs.Hashing.{hashed_info}
 use Rattle.xet_hash_files.specs.internal.FileHasher.{IsHashing}
@@ -21,18 +19,9 @@ Leaf = List ℕ × ℕ
 
 -- ---- leaves
 
--- the leaves of chunks in memory
-made_leaves : (parts : List (List ℕ)) → map chunk_leaf (map chunk_of parts) ≡ leaves_of parts
-made_leaves [] = refl
-made_leaves (p ∷ parts) = ap (λ (l : List Leaf). leaf_of p ∷ l) (made_leaves parts)
-
 -- those of a block after others
-more_leaves : (leaves more : List Leaf) (parts new : List (List ℕ)) (chunks : List Chunk) → leaves ≡ leaves_of parts → chunks ≡ map chunk_of new → more ≡ leaves ++ map chunk_leaf chunks → more ≡ leaves_of (parts ++ new)
-more_leaves leaves more parts new chunks are made is =
-    is
-    ∙ ap (λ (l : List Leaf). l ++ map chunk_leaf chunks) are
-    ∙ ap (λ (l : List Leaf). leaves_of parts ++ l) (ap (map chunk_leaf) made ∙ made_leaves new)
-    ∙ sym (map-append leaf_of parts new)
+more_leaves : (leaves more : List Leaf) (parts new : List (List ℕ)) → leaves ≡ leaves_of parts → more ≡ leaves ++ leaves_of new → more ≡ leaves_of (parts ++ new)
+more_leaves leaves more parts new are is = is ∙ ap (λ (l : List Leaf). l ++ leaves_of new) are ∙ sym (map-append leaf_of parts new)
 
 module _ (s : LimitSettings) (some : 1 ≤ s.minimum_chunk) (order : s.minimum_chunk < s.maximum_chunk) where
   total_after : (k : ℕ) (xs : List ℕ) → total_len (leaves_of (pieces_after (first_chunk_len s) k xs)) ≡ length xs - k
@@ -78,17 +67,16 @@ hashing_begins s most range limit = record {
 
 module _ (old : Splitting) (leaves : List Leaf) (count most : ℕ) (bytes : List ℕ) (is : IsHashing old leaves count most bytes) where
   -- and these
-  pub hashing_more : (new : Splitting) (more : List Leaf) (total : ℕ) (next : List ℕ) (chunks : List Chunk) → IsBlock old.settings (old.buffered ++ next) false chunks new.buffered → new.settings ≡ old.settings
-      → more ≡ leaves ++ map chunk_leaf chunks → total ≡ count + length next → count + length next ≤ most → IsHashing new more total most (bytes ++ next)
-  hashing_more new more total next chunks block same leaves_are total_is short =
-      let split = block.split refl in
-      let both : IsSplit old.settings (bytes ++ next) (is.parts ++ block.parts) new.buffered = record {
+  pub hashing_more : (new : Splitting) (more : List Leaf) (total : ℕ) (next : List ℕ) → (parts : List (List ℕ)) × IsSplit old.settings (old.buffered ++ next) parts new.buffered × (more ≡ leaves ++ leaves_of parts)
+      → new.settings ≡ old.settings → total ≡ count + length next → count + length next ≤ most → IsHashing new more total most (bytes ++ next)
+  hashing_more new more total next (parts, split, leaves_are) same total_is short =
+      let both : IsSplit old.settings (bytes ++ next) (is.parts ++ parts) new.buffered = record {
         joined = λ rest.
             ap (chunking old.settings) (append_assoc bytes next rest)
             ∙ is.split.joined (next ++ rest)
             ∙ ap (λ (t : List ℕ). is.parts ++ chunking old.settings t) (sym (append_assoc old.buffered next rest))
             ∙ ap (λ (t : List (List ℕ)). is.parts ++ t) (split.joined rest)
-            ∙ sym (append_assoc is.parts block.parts (chunking old.settings (new.buffered ++ rest)));
+            ∙ sym (append_assoc is.parts parts (chunking old.settings (new.buffered ++ rest)));
         none = split.none;
       } in
       record {
@@ -96,16 +84,17 @@ module _ (old : Splitting) (leaves : List Leaf) (count most : ℕ) (bytes : List
         limit = is.limit ∙ sym (ap (λ (s : LimitSettings). s.max_source_bytes) same);
         counted = omega (arith, is.counted, total_is, length-append bytes next);
         short = omega (arith, is.counted, short, length-append bytes next);
-        parts = is.parts ++ block.parts;
-        split = subst (λ (s : LimitSettings). IsSplit s (bytes ++ next) (is.parts ++ block.parts) new.buffered) (sym same) both;
-        made = more_leaves leaves more is.parts block.parts chunks is.made block.made leaves_are;
+        parts = is.parts ++ parts;
+        split = subst (λ (s : LimitSettings). IsSplit s (bytes ++ next) (is.parts ++ parts) new.buffered) (sym same) both;
+        made = more_leaves leaves more is.parts parts is.made leaves_are;
       }
 
   -- and no more: the leaves of all chunks
-  pub hashing_ends : (rest : List ℕ) (more : List Leaf) (chunks : List Chunk) → IsBlock old.settings (old.buffered ++ []) true chunks rest → more ≡ leaves ++ map chunk_leaf chunks → more ≡ leaves_of (chunking old.settings bytes)
-  hashing_ends rest more chunks block leaves_are =
-      more_leaves leaves more is.parts block.parts chunks is.made block.made leaves_are
-      ∙ ap leaves_of (ap (λ (t : List (List ℕ)). is.parts ++ t) (block.ended refl).0 ∙ sym (is.split.joined []) ∙ ap (chunking old.settings) (append-nil bytes))
+  pub hashing_ends : (more : List Leaf) → more ≡ leaves ++ leaves_of (chunking old.settings old.buffered) → more ≡ leaves_of (chunking old.settings bytes)
+  hashing_ends more leaves_are =
+      more_leaves leaves more is.parts (chunking old.settings old.buffered) is.made leaves_are
+      ∙ ap leaves_of
+      (ap (λ (t : List ℕ). is.parts ++ chunking old.settings t) (sym (append-nil old.buffered)) ∙ sym (is.split.joined []) ∙ ap (chunking old.settings) (append-nil bytes))
 
   -- Their lengths can be added up.
   pub total_small : (more : List Leaf) → more ≡ leaves_of (chunking old.settings bytes) → total_len more < 2 ^ 64

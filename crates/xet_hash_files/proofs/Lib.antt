@@ -1,3 +1,4 @@
+mod Cutting
 mod Hashing
 mod Joining
 mod Taking

@@ -1,2 +1,3 @@
 pub mod FileHasher
 pub mod Sources
+pub mod Splitting

@@ -1,15 +1,14 @@
 //! `FileHasher`: the pointer record of a file whose bytes come in pieces.
 
-ghost use Rattle.std.specs.Prelude.{◌≡◌, ◌++◌, [], ℕ, List, IfErr, IfOk, IsOkUnless, OnOk, map};
+ghost use Rattle.std.specs.Prelude.{◌≡◌, ◌++◌, [], ℕ, List, IfErr, IfOk, IsOkUnless, OnOk};
 ghost use Rattle.xet_hash_files.specs.Hashing.{hashed_info};
 ghost use Rattle.xet_hash_files.specs.internal.FileHasher.{IsAddError, IsHashing};
-ghost use Rattle.xet_xorb_chunk.specs.Chunks.{chunk_leaf};
 
+use crate::splitting::{split_off, split_rest};
 use std::alloc::Global;
 use xet_cut::{Chunker, Limits};
 use xet_hash::{MerkleHash, StoreError, What, file_hash};
 use xet_store_disk::XetFileInfo;
-use xet_xorb_chunk::{Chunk, chunk_leaves};
 
 /// One file that is hashed as its bytes come. Of each chunk only the hash and the length stay in memory.
 #[derive(Drop)]
@@ -58,9 +57,9 @@ impl FileHasher {
         if bytes.len() as u64 > self.max_bytes - self.byte_count {
             return Err(StoreError::TooLarge(What::Source(self.number)));
         }
-        let chunks = self.chunker.next_block(bytes, false)?;
+        split_off(&mut self.chunker, bytes, &mut self.leaves)?;
         self.byte_count += bytes.len() as u64;
-        push_leaves(self.alloc, &mut self.leaves, &chunks)
+        Ok(())
     }
 
     /// Ends the file, and returns its pointer record. The only error is `OutOfMemory`.
@@ -70,8 +69,7 @@ impl FileHasher {
             → IfOk result (λ info. info ≡ hashed_info self.old.chunker.settings bytes) }
         ensures memory { IsOkUnless result StoreError.OutOfMemory }
     {
-        let chunks = self.chunker.next_block(&[], true)?;
-        push_leaves(self.alloc, &mut self.leaves, &chunks)?;
+        split_rest(&mut self.chunker, &mut self.leaves)?;
         let hash = file_hash(self.alloc, &self.leaves)?;
         Ok(XetFileInfo {
             hash,
@@ -79,18 +77,4 @@ impl FileHasher {
             sha256: None,
         })
     }
-}
-
-/// Appends the hash and the length of each chunk. The only error is `OutOfMemory`.
-fn push_leaves(
-    alloc: Global,
-    leaves: &mut Vec<(MerkleHash, u64)>,
-    chunks: &[Chunk],
-) -> Result<(), StoreError>
-    ensures leaves { OnOk result (leaves.new.items ≡ leaves.old.items ++ map chunk_leaf chunks.now) }
-    ensures memory { IsOkUnless result StoreError.OutOfMemory }
-{
-    let mut more = chunk_leaves(alloc, chunks)?;
-    leaves.append(&mut more)?;
-    Ok(())
 }

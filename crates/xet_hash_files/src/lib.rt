@@ -4,6 +4,7 @@
 mod file_hasher;
 mod parts;
 mod reading;
+mod splitting;
 mod workers;
 
 pub use workers::hash_files;

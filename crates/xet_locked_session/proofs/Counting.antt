@@ -46,6 +46,6 @@ one_until limits c e es until =
 
 pub few_of : (start now : RecordedState) → HaveMade start now ⊎ HaveEnded start now → fault_count now.history ≤ fault_count start.history + 1
 few_of start now (inl made) =
-    omega (arith, ap fault_count made.history, fault_count-append start.history made.since, none_of_steps start.store.limits (core_of start) made.since made.steps)
+    omega (arith, ap fault_count made.history, fault_count-append start.history made.since, none_of_steps start.store.limits (core_of start) made.since made.made.steps)
 few_of start now (inr ended) =
-    omega (arith, ap fault_count ended.history, fault_count-append start.history ended.since, one_until start.store.limits (core_of start) ended.error ended.since ended.steps)
+    omega (arith, ap fault_count ended.history, fault_count-append start.history ended.since, one_until start.store.limits (core_of start) ended.error ended.since ended.made.steps)

@@ -15,11 +15,11 @@ use Rattle.xet_store.specs.Changes.{ChangesFiles, files_of}
 use Rattle.xet_store.specs.Recorded.{RecordedState, core_of}
 use Rattle.xet_store.specs.theorems.Changing.{changes_more, changes_nothing, changes_then}
 use Rattle.xet_store.specs.Steps.{fault_entries}
-use Rattle.xet_store.specs.Alone.{MayBeAsked, cut_of, kind_of}
+use Rattle.xet_store.specs.Alone.{MayBeAsked, attempted, cut_of, kind_of}
 use Rattle.xet_store.specs.Holders.{Holder, grown}
 use Rattle.xet_locked_session.specs.Passes.{FlushFailed, StepFailed}
 use Rattle.xet_locked_session.specs.Session.{IsSince, fault_count}
-use Rattle.xet_locked_session.specs.Shared.{HaveEnded, HaveMade, StepOf, StepsBy, attempted}
+use Rattle.xet_locked_session.specs.Shared.{HaveEnded, HaveMade, StepOf, StepsBy}
 use Rattle.xet_locked_session.specs.internal.Guarded.{HasFailed, HasStep, IsGuarded}
 use Rattle.xet_locked_session.proofs.Counting.{few_of}
 
@@ -50,9 +50,11 @@ module _ (start old new : RecordedState) (pass : ℕ) (is : IsSince start old) w
   made_more m s = record {
     since = m.since ++ s.added;
     history = longer m.since s.added m.history s.history;
-    steps = StepsBy.more m.since s.added pass m.steps
-        (subst (λ (c : Core). StepOf start.store.limits pass c s.added) (core_old m.since m.history) (subst (λ (l : LimitSettings). StepOf l pass (core_of old) s.added) limits_old s.step));
-    changes = changes_then start old new [] [] m.since s.added is.steps.keeps.tells is.steps.keeps.folder m.changes s.changes;
+    made = record {
+      steps = StepsBy.more m.since s.added pass m.made.steps
+          (subst (λ (c : Core). StepOf start.store.limits pass c s.added) (core_old m.since m.history) (subst (λ (l : LimitSettings). StepOf l pass (core_of old) s.added) limits_old s.step));
+      changes = changes_then start old new [] [] m.since s.added is.steps.keeps.tells is.steps.keeps.folder m.made.changes s.changes;
+    };
   }
 
   made_last : (e : StoreError) → HaveMade start old → HasFailed pass old new e → HaveEnded start new
@@ -62,27 +64,29 @@ module _ (start old new : RecordedState) (pass : ℕ) (is : IsSince start old) w
       let files : files_of old.store.folder (attempted pass old.store.limits.shard_target f.step (core_of old)) ≡ tried = λ i. files_of (is.steps.keeps.folder i) (attempted pass (target i) f.step (core_old m.since m.history i)) in
       let last : ChangesFiles tried old new [] = subst (λ (t : List (List ℕ)). ChangesFiles t old new []) files f.tries in
       let both : ChangesFiles tried start new m.since = subst (λ (es : List Entry). ChangesFiles tried start new es) (append-nil m.since)
-      (changes_then start old new [] tried m.since [] is.steps.keeps.tells is.steps.keeps.folder m.changes last) in
+      (changes_then start old new [] tried m.since [] is.steps.keeps.tells is.steps.keeps.folder m.made.changes last) in
       record {
         since = m.since ++ (f.done ++ fault_entries pass (kind_of f.step) e);
         history = longer m.since (f.done ++ fault_entries pass (kind_of f.step) e) m.history f.history;
         error = e;
-        steps = record {
-          before = m.since;
-          steps = m.steps;
-          pass = pass;
-          step = f.step;
-          asked = subst (λ (l : LimitSettings). MayBeAsked l f.step) limits_old f.asked;
-          done = f.done;
-          completed = subst (λ (c : Core). (f.done ≡ []) ⊎ (f.done ≡ cut_of pass start.store.limits.shard_target f.step c)) (core_old m.since m.history)
-              (subst (λ (t : ℕ). (f.done ≡ []) ⊎ (f.done ≡ cut_of pass t f.step (core_of old))) target f.completed);
-          is = refl;
+        made = record {
+          steps = record {
+            before = m.since;
+            steps = m.made.steps;
+            pass = pass;
+            step = f.step;
+            asked = subst (λ (l : LimitSettings). MayBeAsked l f.step) limits_old f.asked;
+            done = f.done;
+            completed = subst (λ (c : Core). (f.done ≡ []) ⊎ (f.done ≡ cut_of pass start.store.limits.shard_target f.step c)) (core_old m.since m.history)
+                (subst (λ (t : ℕ). (f.done ≡ []) ⊎ (f.done ≡ cut_of pass t f.step (core_of old))) target f.completed);
+            is = refl;
+          };
+          changes = changes_more start new tried m.since (f.done ++ fault_entries pass (kind_of f.step) e) both;
         };
-        changes = changes_more start new tried m.since (f.done ++ fault_entries pass (kind_of f.step) e) both;
       }
 
 made_nothing : (s : RecordedState) → HaveMade s s
-made_nothing s = record { since = []; history = sym (append-nil s.history); steps = StepsBy.begins; changes = changes_nothing [] s s [] refl }
+made_nothing s = record { since = []; history = sym (append-nil s.history); made = record { steps = StepsBy.begins; changes = changes_nothing [] s s [] refl } }
 
 module _ (start : RecordedState) (stops : Bool) where
   pub guarded_first : IsGuarded start stops false start

@@ -211,7 +211,7 @@ pub nothing_asked : (pass : ℕ) (s : RecordedState) → FailsAsking pass s s Ou
 nothing_asked pass s = record { steps = steps_nothing s; reason = tt }
 
 pub nothing_refused : (pass : ℕ) (k : StepKind) (cut : List Entry) (s : RecordedState) → Refuses pass k cut s s OutOfMemory
-nothing_refused pass k cut s = record { done = []; completed = inl refl; steps = steps_nothing s; reason = tt }
+nothing_refused pass k cut s = record { done = []; completed = inl refl; steps = steps_nothing s; reason = tt; full = λ full due. (inr refl, refl) }
 
 -- ---- what the steps did
 

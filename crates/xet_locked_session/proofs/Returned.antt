@@ -112,7 +112,7 @@ module _ (store : RecordedState) (start old new : Holder) (stopped : Bool) (last
     register_kept due =
         let here : IsDue limits leaves next = subst (λ (x : PassingState). IsDue (xorb_limits x.start.limits) leaves next) (sym view) due in
         let one = added_register limits old.number (core_found old saw.others) old.limits.shard_target leaves next here in
-        goes_on saw.others registered saw.is one.due last (last_other start old new is.follows saw.others registered saw.is last leaves next one.are)
+        goes_on saw.others registered saw.is one.due last (last_other start old new is.follows saw.others registered saw.is last leaves next one.are was.latest)
 
     pub register_seen : SawRegister leaves next (of_state s) (passing_of start new stopped) added
     register_seen = completed (λ a b. SawRegister leaves next a b added) (saw_register start old new is.follows leaves next added saw)

@@ -13,7 +13,7 @@ use Rattle.xet_shard_format.specs.declared.record.MDBFileInfo.{MDBFileInfo}
 use Rattle.xet_store.specs.Changes.{ChangesFiles, files_of}
 use Rattle.xet_store.specs.Recorded.{RecordedState, core_of}
 use Rattle.xet_store.specs.Steps.{fault_entries}
-use Rattle.xet_store.specs.Alone.{MayBeAsked, Step, cut_of, kind_of}
+use Rattle.xet_store.specs.Alone.{MayBeAsked, Step, attempted, cut_of, kind_of}
 use Rattle.xet_store.specs.Holders.{xorb_limits}
 
 -- These are the entries of one completed step of a pass, from a core on: a query, the registration of a xorb, or the recording of
@@ -44,24 +44,27 @@ pub record StepsByUntil (limits : LimitSettings) (c : Core) (error : StoreError)
   pub completed : (done ≡ []) ⊎ (done ≡ cut_of pass limits.shard_target step (after_all c before))
   pub is : all ≡ before ++ (done ++ fault_entries pass (kind_of step) error)
 
--- the entries of a step, if it is completed, but for the chunks that did not fit into a xorb
-abbrev pub attempted : ℕ → ℕ → Step → Core → List Entry
-attempted pass target Step.asks c = []
-attempted pass target (Step.registers leaves) c = register_entries pass c target leaves []
-attempted pass target (Step.completes file) c = complete_entries pass c target file
+-- Between two states these entries were made, by completed steps, each of some pass. On the disk nothing has changed but the files
+-- that they name, and no temporary file is left.
+pub record MakesStepsBy (old new : RecordedState) (entries : List Entry) : Type 0 where
+  pub steps : StepsBy old.store.limits (core_of old) entries
+  pub changes : ChangesFiles [] old new entries
 
--- Between two states of a store completed steps were made. On the disk nothing has changed but the files that their entries
--- name, and no temporary file is left.
+-- And one more step that failed with this error, and was the last. Its files may have changed too, and what is under their temporary
+-- names.
+pub record MakesStepsByUntil (error : StoreError) (old new : RecordedState) (entries : List Entry) : Type 0 where
+  pub steps : StepsByUntil old.store.limits (core_of old) error entries
+  pub changes : ChangesFiles (files_of old.store.folder (attempted steps.pass old.store.limits.shard_target steps.step (after_all (core_of old) steps.before))) old new entries
+
+-- Between two states of a store completed steps were made.
 pub record HaveMade (old new : RecordedState) : Type 0 where
   pub since : List Entry
   pub history : new.history ≡ old.history ++ since
-  pub steps : StepsBy old.store.limits (core_of old) since
-  pub changes : ChangesFiles [] old new since
+  pub made : MakesStepsBy old new since
 
--- And one more that failed, and was the last. Its files may have changed too, and what is under their temporary names.
+-- And one more that failed, and was the last.
 pub record HaveEnded (old new : RecordedState) : Type 0 where
   pub since : List Entry
   pub history : new.history ≡ old.history ++ since
   pub error : StoreError
-  pub steps : StepsByUntil old.store.limits (core_of old) error since
-  pub changes : ChangesFiles (files_of old.store.folder (attempted steps.pass old.store.limits.shard_target steps.step (after_all (core_of old) steps.before))) old new since
+  pub made : MakesStepsByUntil error old new since

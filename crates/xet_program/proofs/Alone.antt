@@ -8,6 +8,7 @@ use Rattle.xet_cut.specs.Generator.{generated}
 use Rattle.xet_group.specs.Groups.{grouped}
 use Rattle.xet_io.specs.Disk.{Files, entry_at}
 use Rattle.xet_io.specs.Named.{Named}
+use Rattle.xet_folder.specs.Contents.{HasTooMany}
 use Rattle.xet_folder.specs.Names.{IsForeign}
 use Rattle.xet_folder.specs.declared.contents.Contents.{Contents}
 use Rattle.xet_store_disk.specs.Store.{Differ, recorded_files}
@@ -28,6 +29,7 @@ use Rattle.xet_program.specs.internal.Stops.{ForValid, IsStop, answer_outcome, c
 use Rattle.xet_program.proofs.Absent.{none_absent}
 use Rattle.xet_program.proofs.Answered.{malformed_of_ten, none_stored, works_same}
 use Rattle.xet_program.proofs.Endings.{group_long, group_short}
+use Rattle.xet_program.proofs.Outcomes.{on_nought}
 
 -- an input of a length
 some_input : (n : ℕ) → (input : List ℕ) × (length input ≡ n)
@@ -65,7 +67,7 @@ module _ (start : Start) (new : Files) where
   pub answered_list : (r : Answer) → new ≡ start.files → IfOk r (λ text. Listed text.items) → IfErr r (IsStop (folder_causes start.tells start.now start.files)) → Answered (Some ListFiles) start new (answer_outcome r)
   answered_list r same listed stop = record {
     ends = end_list r listed stop;
-    works = works_same (Some ListFiles) start new (answer_outcome r).status same (λ nought. none_stored default_limits start.now start.files new) (λ ten. absurd (malformed_of_ten (IsStop (folder_causes start.tells start.now start.files)) r stop ten));
+    works = works_same (Some ListFiles) start new (answer_outcome r).status same (λ nought. none_stored default_limits start.now start.files new same) (λ ten. absurd (malformed_of_ten (IsStop (folder_causes start.tells start.now start.files)) r stop ten));
   }
 
   -- ---- `read`
@@ -95,7 +97,7 @@ module _ (start : Start) (new : Files) where
     pub answered_read : (r : Answer) → new ≡ start.files → OnOk r (from ≤ to) → IfOk r (λ bytes. length bytes.items ≡ to - from) → IfOk r (λ bytes. IsRead bytes.items) → IfErr r Causes → Answered (Some (Read h from to)) start new (answer_outcome r)
     answered_read r same ordered len is stop = record {
       ends = end_read r ordered len is stop;
-      works = works_same (Some (Read h from to)) start new (answer_outcome r).status same (λ nought. none_stored default_limits start.now start.files new) (malformed_of_ten Causes r stop);
+      works = works_same (Some (Read h from to)) start new (answer_outcome r).status same (λ nought. none_stored default_limits start.now start.files new same) (malformed_of_ten Causes r stop);
     }
 
   -- ---- `clean`
@@ -162,10 +164,10 @@ module _ (start : Start) (new : Files) where
     stored_clean (Err (stop.BadLine n)) is inputs told nought = absurd (omega arith)
 
     pub answered_clean : (r : Answer) → IfOk r (λ text. IsCleanOf text.items) → IfErr r CleanCauses → (start.tells ≡ true → KeepsListed start.now start.files new) → (start.tells ≡ true → KeepsFolder start.now start.files new)
-        → (start.tells ≡ true → (IsAdmittedAt start.now start.files → ⊥) → new ≡ start.files) → (start.inputs_tell ≡ true → start.tells ≡ true → LacksName (Some (Clean names)) start → new ≡ start.files)
+        → (start.tells ≡ true → (IsAdmittedAt start.now start.files → ⊥) → new ≡ start.files) → (start.tells ≡ true → HasTooMany start.files store_folder start.now → new ≡ start.files) → (start.inputs_tell ≡ true → start.tells ≡ true → LacksName (Some (Clean names)) start → new ≡ start.files)
         → (start.tells ≡ true → IsIdle (Some (Clean names)) (answer_outcome r).status → new ≡ start.files)
         → (start.tells ≡ true → (name : List ℕ) → IsForeign store_folder name → entry_at new name ≡ entry_at start.files name) → Answered (Some (Clean names)) start new (answer_outcome r)
-    answered_clean r is stop listed keeps refused absent kept foreign = record {
+    answered_clean r is stop listed keeps refused overfull absent kept foreign = record {
       ends = end_clean r is stop;
       works = record {
         stored = λ observes told nought. stored_clean r is (observes.1 tt) told nought;
@@ -173,6 +175,7 @@ module _ (start : Start) (new : Files) where
         keeps = keeps;
         untouched = λ observes told some. absurd (some refl);
         refused = refused;
+        overfull = overfull;
         absent = absent;
         kept = kept;
         foreign = foreign;
@@ -205,16 +208,18 @@ module _ (start : Start) (new : Files) where
     end_make (Err (stop.BadLine n)) is c = absurd c
 
     pub answered_make : (r : Answer) → IfOk r (λ text. IsMadeOf text.items) → IfErr r MakeCauses → (start.tells ≡ true → KeepsListed start.now start.files new) → (start.tells ≡ true → KeepsFolder start.now start.files new)
-        → (start.tells ≡ true → (IsAdmittedAt start.now start.files → ⊥) → new ≡ start.files) → (start.tells ≡ true → (answer_outcome r).status ≡ 7 → new ≡ start.files)
-        → (start.tells ≡ true → (name : List ℕ) → IsForeign store_folder name → entry_at new name ≡ entry_at start.files name) → Answered (Some (Make seed bytes)) start new (answer_outcome r)
-    answered_make r is stop listed keeps refused kept foreign = record {
+        → (start.tells ≡ true → (IsAdmittedAt start.now start.files → ⊥) → new ≡ start.files) → (start.tells ≡ true → HasTooMany start.files store_folder start.now → new ≡ start.files) → (start.tells ≡ true → (answer_outcome r).status ≡ 7 → new ≡ start.files)
+        → (start.tells ≡ true → (name : List ℕ) → IsForeign store_folder name → entry_at new name ≡ entry_at start.files name) → (start.tells ≡ true → OnOk r (AreStored default_limits [] start.now start.files new))
+        → Answered (Some (Make seed bytes)) start new (answer_outcome r)
+    answered_make r is stop listed keeps refused overfull kept foreign stored = record {
       ends = end_make r is stop;
       works = record {
-        stored = λ observes told nought. none_stored default_limits start.now start.files new;
+        stored = λ observes told nought. on_nought (AreStored default_limits [] start.now start.files new) r nought (stored told);
         listed = listed;
         keeps = keeps;
         untouched = λ observes told some. absurd (some refl);
         refused = refused;
+        overfull = overfull;
         absent = λ inputs_told told lacks. absurd lacks;
         kept = kept;
         foreign = foreign;
@@ -247,5 +252,5 @@ module _ (start : Start) (new : Files) where
   pub answered_group : (r : Answer) → new ≡ start.files → IfOk r (λ text. IsGroup text.items) → IfErr r GroupCauses → Answered (Some Group) start new (answer_outcome r)
   answered_group r same is stop = record {
     ends = end_group r is stop;
-    works = works_same (Some Group) start new (answer_outcome r).status same (λ nought. none_stored default_limits start.now start.files new) (λ ten. absurd (malformed_of_ten GroupCauses r stop ten));
+    works = works_same (Some Group) start new (answer_outcome r).status same (λ nought. none_stored default_limits start.now start.files new same) (λ ten. absurd (malformed_of_ten GroupCauses r stop ten));
   }

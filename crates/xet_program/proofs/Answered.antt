@@ -2,6 +2,7 @@
 use Rattle.std.proofs.Common.{◌≡◌, ◌≢◌, ◌⊎◌, ◌∙◌, ℕ, inl, inr, List, [], subst, Option, Some, None, IfSome, Result, Ok, Err, IfErr, Vec, Global, refl, sym, ap, arith}
 use Rattle.xet_io.specs.Disk.{entry_at as get}
 use Rattle.xet_io.specs.Disk.{Files}
+use Rattle.xet_shard_file.specs.Names.{temp_name}
 use Rattle.xet_cut.specs.declared.limits.LimitSettings.{LimitSettings}
 use Rattle.xet_program.specs.declared.ending.Stop.{Stop}
 use Rattle.xet_program.specs.declared.ending.Stop.TheVariants as stop
@@ -12,7 +13,7 @@ use Rattle.xet_program.specs.internal.Answered.{Answered}
 use Rattle.xet_program.specs.internal.Stops.{answer_outcome}
 use Rattle.xet_program.specs.Early.{IsEarly, Outcome, early_outcome, outcome}
 use Rattle.xet_program.specs.Ending.{IsCutShort, MayEnd}
-use Rattle.xet_program.specs.Stored.{AreStored, KeepsFolder, KeepsListed, Works}
+use Rattle.xet_program.specs.Stored.{AreStored, KeepsFolder, KeepsListed, ListsHash, Works}
 use Rattle.xet_program.specs.Reasons.{IsMalformed}
 use Rattle.xet_program.specs.Tasks.{IsIdle, files_to_store, limits_of}
 
@@ -86,8 +87,13 @@ malformed_of_ten P (Err (stop.BadLine n)) stops ten = absurd (omega arith)
 malformed_of_ten P (Err (stop.BadShard name)) stops ten = absurd (omega arith)
 
 -- no files are stored
-pub none_stored : (s : LimitSettings) (now : ℕ) (old new : Files) → AreStored s [] now old new
-none_stored s now old new = record { recorded = λ apart. tt; made = tt }
+pub none_stored : (s : LimitSettings) (now : ℕ) (old new : Files) → new ≡ old → AreStored s [] now old new
+none_stored s now old new same = record {
+  recorded = λ apart. tt;
+  made = tt;
+  only = λ h listed. inl (subst (λ (x : Files). ListsHash x now h) same listed);
+  tidy = λ name. inl (ap (λ (x : Files). get x (temp_name name)) same);
+}
 
 pub listed_same : (now : ℕ) (files : Files) → KeepsListed now files files
 listed_same now files = record { listed = λ later since f is. is; resolves = λ later since f is chunks resolves. resolves }
@@ -114,6 +120,7 @@ module _ (command : Option Command) (start : Start) where
     keeps = λ told. subst (λ (x : Files). KeepsFolder start.now start.files x) (sym same) (folder_same start.now start.files);
     untouched = λ observes told some. same;
     refused = λ told never. same;
+    overfull = λ told many. same;
     absent = λ inputs_told told lacks. same;
     kept = λ told idle. same;
     foreign = λ told name is. ap (λ (x : Files). get x name) same;
@@ -132,6 +139,7 @@ module _ (command : Option Command) (start : Start) where
       keeps = works.keeps;
       untouched = works.untouched;
       refused = works.refused;
+      overfull = works.overfull;
       absent = works.absent;
       kept = λ told idle. kept_cut command (new ≡ start.files) status other cut (works.kept told) idle;
       foreign = works.foreign;

@@ -19,7 +19,7 @@ use Rattle.xet_program.specs.Tasks.{default_limits, store_folder}
 use Rattle.xet_program.specs.Words.{Command}
 use Rattle.xet_program.specs.Words.Command.{Pack, Clean, Make, Read, ListFiles, Group}
 use Rattle.xet_program.proofs.Absent.{none_absent}
-use Rattle.xet_program.proofs.Contents.{records_once, shards_once}
+use Rattle.xet_program.proofs.Contents.{never_too_many, records_once}
 use Rattle.xet_program.proofs.Endings.{group_short}
 
 some_once : (xs ys : List (List ℕ)) → map {B = Option (List ℕ)} Some xs ≡ map Some ys → xs ≡ ys
@@ -56,10 +56,7 @@ module _ (start : Start) (new : Files) (o : Outcome) where
 
   -- a folder that can be opened has not too many shards
   not_too_many : (X : Type 0) (contents : Contents) → start.tells ≡ true → CanOpen start.files start.now contents → (start.tells ≡ true → HasTooMany start.files store_folder start.now) → X
-  not_too_many X contents told can many =
-      let past = many told in
-      let same = shards_once start.files store_folder start.now contents past.shards can.valid past.admits.registers in
-      absurd (omega (arith, past.many, can.few, ap (λ (ss : List ShardFile). length ss) same, ap (λ (hs : List (List ℕ)). length hs) can.valid.contents.registered, length-map can.valid.shards (λ (f : ShardFile). f.hash)))
+  not_too_many X contents told can many = never_too_many X start.files start.now contents can (many told)
 
   not_malformed : (X : Type 0) → start.tells ≡ true → start.tells ≡ false → X
   not_malformed X told never = absurd (false≢true (sym never ∙ told))

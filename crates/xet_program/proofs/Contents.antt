@@ -1,5 +1,6 @@
 -- The contents of a folder at a time have one table of records.
-use Rattle.std.proofs.Common.{◌≡◌, ◌⊎◌, ◌∙◌, inl, inr, ℕ, zero, suc, true, false, IsTrue, List, [], ◌∷◌, refl, sym, ap, subst, arith}
+use Rattle.std.proofs.Common.{◌≡◌, ◌⊎◌, ◌∙◌, inl, inr, ℕ, zero, suc, true, false, IsTrue, List, [], ◌∷◌, length, map, refl, sym, ap, subst, arith}
+use Rattle.std.proofs.lemmas.List.{length-map}
 use Rattle.std.specs.Cmp.Lexicographic.{nat_list_cmp_total, slice_cmp}
 use Rattle.std.specs.List.{AllPairs, IsAmong, flat_map}
 use Rattle.std.specs.Ordering.{is_lt, nat_cmp, ordering_reverse}
@@ -8,8 +9,10 @@ use Rattle.std.specs.declared.cmp.Ordering.TheVariants.{Less, Equal, Greater}
 use Rattle.xet_io.specs.Disk.{Files}
 use Rattle.xet_shard_format.specs.Names.{shard_name}
 use Rattle.xet_shard_file.specs.Shards.{ComesBefore, IsThere, Registers, ShardFile, is_expired}
-use Rattle.xet_folder.specs.Contents.{HasContents, firsts, listed_in}
+use Rattle.xet_folder.specs.Contents.{HasContents, HasTooMany, firsts, listed_in}
 use Rattle.xet_folder.specs.declared.contents.Contents.{Contents}
+use Rattle.xet_program.specs.Ending.{CanOpen}
+use Rattle.xet_program.specs.Tasks.{store_folder}
 
 less_once : (o p : Ordering) → o ≡ ordering_reverse p → IsTrue (is_lt o) → IsTrue (is_lt p) → ⊥
 less_once o Less is h g = let bad : is_lt Greater ≡ true = subst (λ (x : Ordering). is_lt x ≡ true) is h in absurd (cc bad)
@@ -84,3 +87,9 @@ records_once files folder now c d a b =
     let s = b.admits.registers in
     let same : a.shards ≡ b.shards = same_shards a.shards b.shards r.order s.order (registers_among files folder now a.shards b.shards r s) (registers_among files folder now b.shards a.shards s r) in
     a.contents.records ∙ ap (λ (ss : List ShardFile). firsts (flat_map (λ f. listed_in f.file.bytes) ss)) same ∙ sym b.contents.records
+
+-- a folder that can be opened has not too many shards
+pub never_too_many : (X : Type 0) (files : Files) (now : ℕ) (c : Contents) → CanOpen files now c → HasTooMany files store_folder now → X
+never_too_many X files now c can past =
+    let same = shards_once files store_folder now c past.shards can.valid past.admits.registers in
+    absurd (omega (arith, past.many, can.few, ap (λ (ss : List ShardFile). length ss) same, ap (λ (hs : List (List ℕ)). length hs) can.valid.contents.registered, length-map can.valid.shards (λ (f : ShardFile). f.hash)))

@@ -24,3 +24,6 @@ mod Held
 mod Absent
 mod Alone
 mod Hashes
+mod Only
+mod Uncut
+mod Unflushed

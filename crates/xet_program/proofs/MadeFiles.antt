@@ -51,7 +51,7 @@ use Rattle.xet_program.proofs.Cleaned.{cleaned_files, files_told, since_is}
 
 -- ---- numbers of chunks
 
-no_more_new : (choices : List Choice) → new_chunks choices ≤ length choices
+pub no_more_new : (choices : List Choice) → new_chunks choices ≤ length choices
 no_more_new [] = omega arith
 no_more_new (c ∷ cs) = by_kind (is_reused c) (no_more_new cs)
   where
@@ -59,10 +59,10 @@ no_more_new (c ∷ cs) = by_kind (is_reused c) (no_more_new cs)
     by_kind true few = omega (arith, few)
     by_kind false few = omega (arith, few)
 
-abbrev chunks_in : LimitSettings → List (List ℕ) → ℕ
+abbrev pub chunks_in : LimitSettings → List (List ℕ) → ℕ
 chunks_in s files = sum_by (λ f. length (chunking s f)) files
 
-abbrev new_in : List (List Choice) → ℕ
+abbrev pub new_in : List (List Choice) → ℕ
 new_in choices = sum_by new_chunks choices
 
 -- a file of no bytes has no chunks
@@ -84,7 +84,7 @@ sums_more s f fs c cs one_each rest =
     )
 
 -- the sums over files whose choices are these
-sums_counted : (workers : ℕ) (s : LimitSettings) (calls : ℕ → List Call) (files : List (List ℕ)) (choices : List (List Choice)) (records : List MDBFileInfo) → AreChosenBy workers s calls files choices records
+pub sums_counted : (workers : ℕ) (s : LimitSettings) (calls : ℕ → List Call) (files : List (List ℕ)) (choices : List (List Choice)) (records : List MDBFileInfo) → AreChosenBy workers s calls files choices records
     → ((metrics_sum s files choices).total_chunks ≡ chunks_in s files) × ((metrics_sum s files choices).new_chunks ≡ new_in choices) × (new_in choices ≤ chunks_in s files)
 sums_counted workers s calls [] [] records chosen = (refl, refl, omega arith)
 sums_counted workers s calls [] (c ∷ cs) records chosen = absurd chosen

@@ -18,7 +18,7 @@ use Rattle.xet_cut.specs.Chunking.{chunking}
 use Rattle.xet_dedup.specs.Records.{file_record}
 use Rattle.xet_clean.specs.Cleaning.{RecordsFile}
 use Rattle.xet_clean.specs.declared.policy.Sha256Policy.TheVariants.{Compute}
-use Rattle.xet_history.specs.Core.{Core, is_new, pending_hash}
+use Rattle.xet_history.specs.Core.{Core, has_pending, is_new, pending_hash}
 use Rattle.xet_history.specs.History.{after_all, flush_entries}
 use Rattle.xet_history.specs.Lasting.{HasLasting, LastsIn}
 use Rattle.xet_history.specs.declared.entry.Entry.{Entry}
@@ -32,15 +32,18 @@ use Rattle.xet_store_disk.specs.Store.{IsKept, Sound, State}
 use Rattle.xet_store_disk.specs.theorems.Admitting.{one_of}
 use Rattle.xet_store_disk.specs.theorems.Rows.{to_among}
 use Rattle.xet_store_disk.specs.theorems.Whole.{found_has}
+use Rattle.xet_store.specs.Changes.{ChangesFiles}
 use Rattle.xet_store.specs.Recorded.{IsRecorded, RecordedState, core_of}
 use Rattle.xet_store.specs.Steps.{Steps}
+use Rattle.xet_store.specs.theorems.Changing.{changes_then, changes_unread}
 use Rattle.xet_store.specs.theorems.Joining.{steps_both, steps_unread}
 use Rattle.xet_store.specs.theorems.Lasting.{lasting_listed}
 use Rattle.xet_program.specs.Tasks.{store_folder}
 use Rattle.xet_program.specs.Report.{hash_of_file}
 use Rattle.xet_program.specs.internal.Cleaned.{RecordsHash}
-use Rattle.xet_program.specs.internal.Steps.{IsSettled, ListsMadeIn, MakesIn}
+use Rattle.xet_program.specs.internal.Steps.{IsSettled, ListsMadeIn, ListsNoOther, MakesIn}
 use Rattle.xet_program.specs.Stored.{AreStored, ListsHash, ListsMade, Makes, Records}
+use Rattle.xet_program.proofs.Only.{only_on_disk, tidy_on_disk}
 
 none_among : {X : Type 0} (xs : List X) (x : X) → xs ≡ [] → IsAmong xs x → ⊥
 none_among xs x none among =
@@ -55,20 +58,35 @@ idle_flush old mid pending steps =
     let idle : nat_lt 0 (length old.store.pending.blocks + length old.store.pending.files) ≡ false = ap (λ (p : Held). nat_lt 0 (length p.blocks + length p.files)) pending in
     steps.moves.leads ∙ ap (λ (b : Bool). after_all (core_of old) (if b then Flush 0 (pending_hash (core_of old)) ∷ [] else [])) idle
 
+-- a flush records no file
+unrecorded_flush : (l : LimitSettings) (c : Core) → AllByRecursion (RecordsFile Compute l []) (flush_entries 0 c ++ [])
+unrecorded_flush l c = go (has_pending c)
+  where
+    go : (b : Bool) → AllByRecursion (RecordsFile Compute l []) ((if b then Flush 0 (pending_hash c) ∷ [] else []) ++ [])
+    go true = (tt, tt)
+    go false = tt
+
+changes_read : (old mid new : RecordedState) → Steps old mid (flush_entries 0 (core_of old)) → ChangesFiles [] old mid (flush_entries 0 (core_of old)) → IsUnchanged mid.store new.store → ChangesFiles [] old new (flush_entries 0 (core_of old) ++ [])
+changes_read old mid new steps changes unchanged = changes_then old mid new [] [] (flush_entries 0 (core_of old)) [] steps.keeps.tells steps.keeps.folder changes (changes_unread mid new [] unchanged)
+
 pub settled_of : (old mid new : RecordedState) (shard : Option (List ℕ)) → ((shard ≡ None) ↔ (old.store.pending ≡ nothing)) → IfSome shard (λ h. IsFlushed old.store h mid.store)
-    → Steps old mid (flush_entries 0 (core_of old)) → IsUnchanged mid.store new.store → (new.shards ≡ mid.shards) × (new.history ≡ mid.history) → IsSettled old new
-settled_of old mid new None none flushed steps unchanged same =
+    → Steps old mid (flush_entries 0 (core_of old)) → ChangesFiles [] old mid (flush_entries 0 (core_of old)) → IsUnchanged mid.store new.store → (new.shards ≡ mid.shards) × (new.history ≡ mid.history) → IsSettled old new
+settled_of old mid new None none flushed steps changes unchanged same =
     let pending : old.store.pending ≡ nothing = none.0 refl in
     let core : core_of mid ≡ core_of old = idle_flush old mid pending steps in record {
       entries = flush_entries 0 (core_of old) ++ [];
       steps = steps_both old mid new (flush_entries 0 (core_of old)) [] steps (steps_unread mid new unchanged same.0 same.1);
+      unrecorded = unrecorded_flush old.store.limits (core_of old);
+      changes = changes_read old mid new steps changes unchanged;
       nothing_pending = ap (λ (s : State). s.pending) unchanged.is ∙ ap (λ (c : Core). c.pending) core ∙ pending;
       xorbs = ap (λ (s : State). s.xorbs) unchanged.is ∙ ap (λ (c : Core). c.xorbs) core;
       records = ap (λ (s : State). s.records) unchanged.is ∙ ap (λ (c : Core). c.records) core;
     }
-settled_of old mid new (Some h) none flushed steps unchanged same = record {
+settled_of old mid new (Some h) none flushed steps changes unchanged same = record {
   entries = flush_entries 0 (core_of old) ++ [];
   steps = steps_both old mid new (flush_entries 0 (core_of old)) [] steps (steps_unread mid new unchanged same.0 same.1);
+  unrecorded = unrecorded_flush old.store.limits (core_of old);
+  changes = changes_read old mid new steps changes unchanged;
   nothing_pending = ap (λ (s : State). s.pending) unchanged.is ∙ flushed.nothing_pending;
   xorbs = ap (λ (s : State). s.xorbs) unchanged.is ∙ flushed.xorbs;
   records = ap (λ (s : State). s.records) unchanged.is ∙ flushed.records;
@@ -172,8 +190,19 @@ module _ (tells : Bool) (disk files : Files) (limits : LimitSettings) (now : ℕ
   makes stored made = made_each stored stored made
 
   -- what is stored in a session is stored on the disk that it hands back
-  pub are_stored : (stored : List (List ℕ)) → Records s.limits stored s.opened t.files → MakesIn s stored t → AreStored limits stored now disk files
-  are_stored stored recorded made = record {
+  pub are_stored : (stored : List (List ℕ)) → Records s.limits stored s.opened t.files → MakesIn s stored t → ListsNoOther s stored t → AreStored limits stored now disk files
+  are_stored stored recorded made other = record {
     recorded = subst (λ (l : LimitSettings). Records l stored now files) opened.same_limits (subst (λ (n : ℕ). Records s.limits stored n files) opened.time (subst (λ (x : Files). Records s.limits stored s.opened x) (sym is) recorded));
     made = makes stored made;
+    only = only_on_disk tells disk files limits now s t opened is stored other;
+    tidy = tidy_on_disk tells disk files limits now s t opened is stored other;
   }
+
+-- where no file was to be recorded
+pub none_recorded : (tells : Bool) (disk files : Files) (limits : LimitSettings) (now : ℕ) (s t : State) → IsOpened tells false disk store_folder limits now s → files ≡ t.files → ListsNoOther s [] t → AreStored limits [] now disk files
+none_recorded tells disk files limits now s t opened is other = record {
+  recorded = λ apart. tt;
+  made = tt;
+  only = only_on_disk tells disk files limits now s t opened is [] other;
+  tidy = tidy_on_disk tells disk files limits now s t opened is [] other;
+}

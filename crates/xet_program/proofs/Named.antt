@@ -36,7 +36,7 @@ module _ (inputs_tell : Bool) (inputs : Named (List ℕ)) (names : List (List �
     lines = x.lines ∙ ap (λ (l : LimitSettings). flat_map (file_line l) x.files) opened.same_limits;
     stored = λ inputs_told told.
         let here = opened.same_tells ∙ told in
-        are_stored tells disk files default_limits now s t told opened sound keeps is x.files (x.recorded inputs_told here) (x.made here);
+        are_stored tells disk files default_limits now s t told opened sound keeps is x.files (x.recorded inputs_told here) (x.made here) (x.other here);
   }
 
   pub cleaned_text : Sound s → Keeps s t → files ≡ t.files → (tells ≡ true → CanOpen disk now (contents_of s)) → (r : Answer) → IfOk r (λ text. IsCleaned inputs_tell inputs names s t text.items)

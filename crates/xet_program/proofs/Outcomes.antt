@@ -10,6 +10,7 @@ use Rattle.xet_io.specs.Whole.{ReadsAll}
 use Rattle.xet_io.specs.declared.whole.Unread.{Unread}
 use Rattle.xet_io.specs.declared.whole.Unread.TheVariants as unread
 use Rattle.xet_folder.specs.declared.contents.Contents.{Contents}
+use Rattle.xet_folder.specs.Contents.{HasTooMany}
 use Rattle.xet_folder.specs.Names.{IsForeign}
 use Rattle.xet_cut.specs.declared.limits.LimitSettings.{LimitSettings}
 use Rattle.xet_program.specs.declared.ending.Stop.{Stop}
@@ -174,6 +175,7 @@ pub record StandsAt (s : LimitSettings) (workers : ℕ) (start : Start) (new : F
   pub listed : start.tells ≡ true → KeepsListed start.now start.files new
   pub keeps : start.tells ≡ true → KeepsFolder start.now start.files new
   pub refused : start.tells ≡ true → (IsAdmittedAt start.now start.files → ⊥) → new ≡ start.files
+  pub overfull : start.tells ≡ true → HasTooMany start.files store_folder start.now → new ≡ start.files
   pub kept : start.tells ≡ true → IsIdle (Some (Pack s workers)) (answer_outcome r).status → new ≡ start.files
   pub foreign : start.tells ≡ true → (name : List ℕ) → IsForeign store_folder name → get new name ≡ get start.files name
 
@@ -213,6 +215,7 @@ module _ (s : LimitSettings) (workers : ℕ) (start : Start) (new : Files) (said
     keeps = stands.keeps;
     untouched = λ observes told some. absurd (some (is (observes.0 tt)).fine);
     refused = stands.refused;
+    overfull = stands.overfull;
     absent = λ inputs_told told lacks. absurd lacks;
     kept = stands.kept;
     foreign = stands.foreign;

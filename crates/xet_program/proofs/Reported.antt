@@ -17,10 +17,11 @@ use Rattle.xet_program.specs.Answers.{AreNamed}
 use Rattle.xet_program.specs.internal.Parsing.{Said, are_good}
 use Rattle.xet_program.specs.internal.Report.{info_line}
 use Rattle.xet_program.specs.internal.Cleaned.{AreCleaned, IsCleaned, IsLinesAnswer}
-use Rattle.xet_program.specs.internal.Steps.{AreRead, IsSettled, MakesIn}
+use Rattle.xet_program.specs.internal.Steps.{AreRead, IsSettled, ListsNoOther, MakesIn}
 use Rattle.xet_program.specs.internal.Stops.{Causes, IsStop, naming_causes, session_causes, settling_causes}
 use Rattle.xet_program.proofs.Cleaned.{all_tell, bounds_of_good, cleaned_files, count_of_sources, files_of_sources, lines_of_infos}
 use Rattle.xet_program.proofs.Making.{made_in}
+use Rattle.xet_program.proofs.Only.{no_other_settled}
 use Rattle.xet_program.proofs.Opened.{Opened, opened_count, opened_named, opened_tell, rose_after, rose_then}
 use Rattle.xet_program.proofs.Settled.{AreSteps, IsDone, recorded_of, reports}
 
@@ -101,6 +102,11 @@ module _ (first before after : RecordedState) (said : Said) where
       subst (λ (fs : List (List ℕ)). MakesIn first.store fs after.store) (cleaned_files said.files first before x.infos.items c)
       (made_in first before after c.files c.entries c.steps c.only settled steps.flushed steps.recorded told c.recorded)
 
+  lines_other : (x : Cleaned) → AreSteps first before after → AreCleaned (λ _. true) (λ f. f) said.files first before x.infos.items → IsSettled before after → first.store.tells ≡ true → ListsNoOther first.store said.files after.store
+  lines_other x steps c settled told =
+      subst (λ (fs : List (List ℕ)). ListsNoOther first.store fs after.store) (cleaned_files said.files first before x.infos.items c)
+      (no_other_settled first before after c.files c.entries c.steps c.by.changes c.only settled steps.recorded steps.fresh steps.folder told)
+
   pub lines_answer : (ranges : List FileRange) (cleaned : Result Cleaned Stop) (r : Answer) → AreSteps first before after → ranges ≡ said.ranges → are_good said ≡ true
       → IfOk cleaned (λ x. AreCleaned (λ _. true) (λ f. f) said.files first before x.infos.items) → OnOk cleaned (OnOk r (IsSettled before after))
       → IfOk cleaned (λ x. IfOk r (λ text. (lines : List ℕ) × AreRead after.store x.infos.items ranges lines × (text.items ≡ flat_map info_line x.infos.items ++ lines)))
@@ -112,10 +118,11 @@ module _ (first before after : RecordedState) (said : Said) where
         report = reports first before after said done x.infos.items ranges infos same good (Ok t) settled text;
         recorded = λ told. recorded_of first before after said.files done settled told;
         made = λ told. lines_made x steps c settled told;
+        other = λ told. lines_other x steps c settled told;
       }
-  lines_answer ranges (Ok x) (Err e) steps same good c settled text stopped = record { report = tt; recorded = λ told. tt; made = λ told. tt }
+  lines_answer ranges (Ok x) (Err e) steps same good c settled text stopped = record { report = tt; recorded = λ told. tt; made = λ told. tt; other = λ told. tt }
   lines_answer ranges (Err e) (Ok t) steps same good c settled text (is_r, kept) = absurd (cc is_r)
-  lines_answer ranges (Err e) (Err f) steps same good c settled text stopped = record { report = tt; recorded = λ told. tt; made = λ told. tt }
+  lines_answer ranges (Err e) (Err f) steps same good c settled text stopped = record { report = tt; recorded = λ told. tt; made = λ told. tt; other = λ told. tt }
 
 -- ---- files by name
 
@@ -157,6 +164,7 @@ module _ (first before after : RecordedState) (inputs_tell : Bool) (inputs : Nam
     lines = is ∙ ap (λ (l : List ℕ). flat_map info_line x.infos.items ++ l) none ∙ append-nil (flat_map info_line x.infos.items) ∙ ap (flat_map info_line) c.told ∙ lines_of_infos first.store.limits c.files;
     recorded = λ inputs_told told. recorded_of first before after c.files (done inputs_told) settled told;
     made = λ told. made_in first before after c.files c.entries c.steps c.only settled steps.flushed steps.recorded told c.recorded;
+    other = λ told. no_other_settled first before after c.files c.entries c.steps c.by.changes c.only settled steps.recorded steps.fresh steps.folder told;
   }
     where
       done : inputs_tell ≡ true → IsDone first before after c.files

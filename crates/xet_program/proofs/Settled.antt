@@ -22,7 +22,7 @@ use Rattle.xet_history.specs.History.{after_all}
 use Rattle.xet_history.specs.declared.entry.Entry.{Entry}
 use Rattle.xet_history.specs.theorems.Naming.{InShard, Names, OfXorb, listed_named}
 use Rattle.xet_history.specs.theorems.Staying.{Leaves, new_if_none, not_new_if_found}
-use Rattle.xet_shard.specs.Held.{Held}
+use Rattle.xet_shard.specs.Held.{Held, nothing}
 use Rattle.xet_store.specs.Recorded.{IsRecorded, RecordedState, core_of}
 use Rattle.xet_store.specs.Steps.{Steps}
 use Rattle.xet_store.specs.theorems.Joining.{steps_both}
@@ -98,6 +98,7 @@ pub record AreSteps (first before after : RecordedState) : Type 0 where
   pub flushed : Sound after.store
   pub recorded : IsRecorded after
   pub folder : first.store.folder ≡ store_folder
+  pub fresh : first.store.pending ≡ nothing
   pub fits : AreInRange first.store.limits
   pub contents : first.store.tells ≡ true → HasContents first.store.files first.store.folder first.store.opened (contents_of first.store)
 

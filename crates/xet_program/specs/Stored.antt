@@ -1,5 +1,5 @@
 -- What a command does to the files of its disk.
-use Rattle.std.specs.Prelude.{◌≡◌, ◌≢◌, ◌⊎◌, ℕ, ◌<◌, ◌≤◌, ◌^◌, true, false, List, [], map, Option, Some, None, IfSome}
+use Rattle.std.specs.Prelude.{◌≡◌, ◌≢◌, ◌⊎◌, ℕ, ◌<◌, ◌≤◌, ◌^◌, true, false, List, [], map, Any, Option, Some, None, IfSome}
 use Rattle.xet_io.specs.Disk.{entry_at as get}
 use Rattle.std.specs.List.{AllByRecursion, IsAmong}
 use Rattle.xet_io.specs.Disk.{Files}
@@ -11,8 +11,9 @@ use Rattle.xet_store_disk.specs.Cleaning.{HasShard, HasXorb, IsDurable, SameEntr
 use Rattle.xet_store_disk.specs.Separate.{IsNamed, SeparateIn}
 use Rattle.xet_dedup.specs.Records.{file_record}
 use Rattle.xet_folder.specs.Admission.{Admits}
+use Rattle.xet_folder.specs.Contents.{HasTooMany}
 use Rattle.xet_folder.specs.Listed.{ResolvesTo, Lists}
-use Rattle.xet_shard_file.specs.Names.{IsHash, shard_path}
+use Rattle.xet_shard_file.specs.Names.{IsHash, shard_path, temp_name}
 use Rattle.xet_folder.specs.Names.{IsForeign, xorb_path}
 use Rattle.xet_shard_file.specs.Shards.{IsThere, ShardFile, is_expired}
 use Rattle.xet_shard_format.specs.declared.record.FileDataSequenceEntry.{FileDataSequenceEntry as Segment}
@@ -56,11 +57,23 @@ Makes s stored now old new =
     AllByRecursion (λ bytes. bytes ≢ [] → (ListsHash old now (hash_of_file s bytes) → ⊥)
     → (made : List ℕ) × IsAmong stored made × (hash_of_file s made ≡ hash_of_file s bytes) × ListsMade s new made) stored
 
+-- What the folder lists newly at a time is of these files: each hash that it lists was listed before, or is that of one of them that
+-- is not empty.
+abbrev pub ListsOnly : LimitSettings → List (List ℕ) → ℕ → Files → Files → Type 0
+ListsOnly s stored now old new =
+    (h : List ℕ) → ListsHash new now h → ListsHash old now h ⊎ Any (λ bytes. (bytes ≢ []) × (h ≡ hash_of_file s bytes)) stored
+
+-- No temporary file is left: under each temporary name is what was there before, or nothing.
+abbrev pub LeavesNone : Files → Files → Type 0
+LeavesNone old new = (name : List ℕ) → SameEntry old new (temp_name name) ⊎ (get new (temp_name name) ≡ None)
+
 -- Files were stored in the folder of a disk: each is recorded, and the records of those that were new to the folder are
--- made of them.
+-- made of them. No other file is listed newly, and no temporary file is left.
 pub record AreStored (s : LimitSettings) (stored : List (List ℕ)) (now : ℕ) (old new : Files) : Type 0 where
   pub recorded : Records s stored now new
   pub made : Makes s stored now old new
+  pub only : ListsOnly s stored now old new
+  pub tidy : LeavesNone old new
 
 -- Each file that is listed before, at `now` or later, is listed after for that time, with the same chunks.
 pub record KeepsListed (now : ℕ) (old new : Files) : Type 0 where
@@ -85,13 +98,14 @@ pub record KeepsFolder (now : ℕ) (old new : Files) : Type 0 where
 
 -- What the run of a command does to the files of its disk, by the status with which it ends: what status 0
 -- promises, what is kept whatever the status, and when no file has changed: if an outcome is due before the store is
--- opened, if the folder is not valid, if a name is absent, and by the status.
+-- opened, if the folder is not valid or has too many shards, if a name is absent, and by the status.
 pub record Works (command : Option Command) (start : Start) (new : Files) (status : ℕ) : Type 0 where
   pub stored : Observes start command → start.tells ≡ true → status ≡ 0 → IfSome command (λ c. AreStored (limits_of c) (files_to_store c start) start.now start.files new)
   pub listed : start.tells ≡ true → KeepsListed start.now start.files new
   pub keeps : start.tells ≡ true → KeepsFolder start.now start.files new
   pub untouched : Observes start command → start.tells ≡ true → early_outcome command start.input ≢ None → new ≡ start.files
   pub refused : start.tells ≡ true → (IsAdmittedAt start.now start.files → ⊥) → new ≡ start.files
+  pub overfull : start.tells ≡ true → HasTooMany start.files store_folder start.now → new ≡ start.files
   pub absent : start.inputs_tell ≡ true → start.tells ≡ true → LacksName command start → new ≡ start.files
   pub kept : start.tells ≡ true → IsIdle command status → new ≡ start.files
   pub foreign : start.tells ≡ true → (name : List ℕ) → IsForeign store_folder name → get new name ≡ get start.files name

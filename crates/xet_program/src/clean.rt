@@ -3,10 +3,11 @@
 ghost use Rattle.std.specs.Prelude.{◌≡◌, ◌≤◌, ◌<◌, ◌+◌, ◌-◌, ◌^◌, ℕ, List, true, [], Some, None, length, map, string_bytes, vec_capacity, Any, IfErr, IfOk, OnOk, IsErrOf};
 ghost use Rattle.std.specs.FinMap.{get};
 ghost use Rattle.xet_io.specs.Disk.{entry_at};
-ghost use Rattle.xet_folder.specs.Contents.{HasContents};
+ghost use Rattle.xet_folder.specs.Contents.{HasContents, HasTooMany};
 ghost use Rattle.xet_folder.specs.Names.{IsForeign};
 ghost use Rattle.xet_io.specs.Faults.{HasCause};
 ghost use Rattle.xet_io.specs.Frame.{Called, Queried};
+ghost use Rattle.xet_shard.specs.Held.{nothing};
 ghost use Rattle.xet_store_disk.specs.Cleaning.{Keeps};
 ghost use Rattle.xet_store_disk.specs.Opening.{contents_of};
 ghost use Rattle.xet_program.specs.Stored.{IsAdmittedAt, KeepsFolder, KeepsListed};
@@ -42,6 +43,7 @@ pub fn clean<D: Disk + Send, F: Inputs, R: Threads + Wait + Sync>(
     ensures listed { D.tells disk ≡ true → KeepsListed now (D.files disk) (D.files result.0) }
     ensures keeps { D.tells disk ≡ true → KeepsFolder now (D.files disk) (D.files result.0) }
     ensures refused { D.tells disk ≡ true → (IsAdmittedAt now (D.files disk) → ⊥) → D.files result.0 ≡ D.files disk }
+    ensures overfull { D.tells disk ≡ true → HasTooMany (D.files disk) store_folder now → D.files result.0 ≡ D.files disk }
     ensures absent { F.tells inputs.old ≡ true → D.tells disk ≡ true → Any (λ name. get (F.files inputs.old) name ≡ None) (map string_bytes names.now) → D.files result.0 ≡ D.files disk }
     ensures kept { D.tells disk ≡ true → IsIdle (Some (Clean (map string_bytes names.now))) (answer_outcome result.1).status → D.files result.0 ≡ D.files disk }
     ensures foreign { D.tells disk ≡ true → (name : List ℕ) → IsForeign store_folder name → entry_at (D.files result.0) name ≡ entry_at (D.files disk) name }
@@ -73,6 +75,7 @@ fn clean_names<D: Disk + Send, F: Inputs, R: Threads + Wait + Sync>(
 ) -> (Store<D>, Result<Vec<u8>, Stop>)
     requires count { length names.now ≤ 2 ^ 20 }
     requires folder { session.store.folder ≡ store_folder }
+    requires fresh { session.store.pending ≡ nothing }
     requires contents { session.store.tells ≡ true → HasContents session.store.files session.store.folder session.store.opened (contents_of session.store) }
     ensures cleaned { IfOk result.1 (λ text. IsCleaned (F.tells inputs.old) (F.files inputs.old) (map string_bytes names.now) session.store result.0.store text.items) }
     ensures keeps { Keeps session.store result.0.store }

@@ -4,15 +4,18 @@ ghost use Rattle.std.specs.Prelude.{◌≡◌, ◌≤◌, ◌⊎◌, ◌∷◌, 
 ghost use Rattle.xet_io.specs.Disk.{entry_at as get};
 ghost use Rattle.xet_cut.specs.Chunking.{chunking};
 ghost use Rattle.xet_cut.specs.Generator.{generated};
+ghost use Rattle.xet_folder.specs.Contents.{HasTooMany};
 ghost use Rattle.xet_folder.specs.Names.{IsForeign};
 ghost use Rattle.xet_io.specs.Faults.{HasCause};
 ghost use Rattle.xet_io.specs.Frame.{Called};
+ghost use Rattle.xet_shard.specs.Held.{nothing};
 ghost use Rattle.xet_store_disk.specs.Cleaning.{Keeps};
 ghost use Rattle.xet_program.specs.Making.{IsMadeText, both_files, with_byte_inserted};
-ghost use Rattle.xet_program.specs.Stored.{IsAdmittedAt, KeepsFolder, KeepsListed};
+ghost use Rattle.xet_program.specs.Stored.{AreStored, IsAdmittedAt, KeepsFolder, KeepsListed};
 ghost use Rattle.xet_program.specs.Tasks.{default_limits, store_folder};
 ghost use Rattle.xet_program.specs.Words.{max_generated};
-ghost use Rattle.xet_program.specs.internal.Made.{AddsXorbs, HasPlan, IsInserted, IsMade, counts_text};
+ghost use Rattle.xet_program.specs.internal.Made.{AddsXorbs, FitsPending, HasPlan, IsInserted, IsMade, Pends, counts_text};
+ghost use Rattle.xet_program.specs.internal.Steps.{ListsNoOther};
 ghost use Rattle.xet_program.specs.internal.Stops.{ForValid, IsStop, answer_outcome, filing_causes, making_causes};
 
 use crate::ending::Stop;
@@ -53,8 +56,10 @@ pub fn make<D: Disk + Send, R: Threads + Wait + Sync>(
     ensures listed { D.tells disk ≡ true → KeepsListed now (D.files disk) (D.files result.0) }
     ensures keeps { D.tells disk ≡ true → KeepsFolder now (D.files disk) (D.files result.0) }
     ensures refused { D.tells disk ≡ true → (IsAdmittedAt now (D.files disk) → ⊥) → D.files result.0 ≡ D.files disk }
+    ensures overfull { D.tells disk ≡ true → HasTooMany (D.files disk) store_folder now → D.files result.0 ≡ D.files disk }
     ensures kept { D.tells disk ≡ true → (answer_outcome result.1).status ≡ 7 → D.files result.0 ≡ D.files disk }
     ensures foreign { D.tells disk ≡ true → (name : List ℕ) → IsForeign store_folder name → get (D.files result.0) name ≡ get (D.files disk) name }
+    ensures stored { D.tells disk ≡ true → OnOk result.1 (AreStored default_limits [] now (D.files disk) (D.files result.0)) }
     ensures frame { Called D.tells D.faults disk result.0 (IsErrOf result.1 Stop.Disk) }
 {
     match generated(alloc, seed, bytes as usize) {
@@ -77,8 +82,10 @@ fn store_file<D: Disk + Send, R: Threads + Wait + Sync>(
     ensures listed { D.tells disk ≡ true → KeepsListed now (D.files disk) (D.files result.0) }
     ensures keeps { D.tells disk ≡ true → KeepsFolder now (D.files disk) (D.files result.0) }
     ensures refused { D.tells disk ≡ true → (IsAdmittedAt now (D.files disk) → ⊥) → D.files result.0 ≡ D.files disk }
+    ensures overfull { D.tells disk ≡ true → HasTooMany (D.files disk) store_folder now → D.files result.0 ≡ D.files disk }
     ensures kept { D.tells disk ≡ true → (answer_outcome result.1).status ≡ 7 → D.files result.0 ≡ D.files disk }
     ensures foreign { D.tells disk ≡ true → (name : List ℕ) → IsForeign store_folder name → get (D.files result.0) name ≡ get (D.files disk) name }
+    ensures stored { D.tells disk ≡ true → OnOk result.1 (AreStored default_limits [] now (D.files disk) (D.files result.0)) }
     ensures frame { Called D.tells D.faults disk result.0 (IsErrOf result.1 Stop.Disk) }
 {
     match Store::open(alloc, disk, FOLDER, default_limits(), now, false) {
@@ -102,6 +109,9 @@ fn store_both<D: Disk + Send, R: Threads + Wait + Sync>(
 ) -> (Store<D>, Result<Vec<u8>, Stop>)
     requires limits { session.store.limits ≡ default_limits }
     requires short { length bytes.items ≤ max_generated }
+    requires folder { session.store.folder ≡ store_folder }
+    requires fresh { session.store.pending ≡ nothing }
+    ensures other { session.store.tells ≡ true → OnOk result.1 (ListsNoOther session.store [] result.0.store) }
     ensures made { IfOk result.1 (λ text. IsMade bytes.items session.store result.0.store text.items) }
     ensures keeps { Keeps session.store result.0.store }
     ensures stop { IfErr result.1 (IsStop (filing_causes session result.0 (both_files bytes.items))) }
@@ -124,6 +134,9 @@ fn store_inserted<D: Disk + Send, R: Threads + Wait + Sync>(
 ) -> (Store<D>, Result<Vec<u8>, Stop>)
     requires limits { session.store.limits ≡ default_limits }
     requires short { length bytes.items ≤ max_generated }
+    requires folder { session.store.folder ≡ store_folder }
+    requires room { FitsPending session.store (with_byte_inserted bytes.items ∷ []) }
+    ensures other { session.store.tells ≡ true → OnOk result.1 (ListsNoOther session.store [] result.0.store) }
     ensures made { IfOk result.1 (λ text. IsInserted bytes.items first session.store result.0.store text.items) }
     ensures keeps { Keeps session.store result.0.store }
     ensures stop { IfErr result.1 (IsStop (filing_causes session result.0 (with_byte_inserted bytes.items ∷ []))) }
@@ -157,7 +170,11 @@ fn store_one<D: Disk + Send, R: Threads + Wait + Sync>(
     session: Store<D>,
     bytes: &[u8],
 ) -> (Store<D>, Result<ChunkCounts, Stop>)
-    requires { length bytes.now ≤ session.store.limits.max_source_bytes }
+    requires short { length bytes.now ≤ session.store.limits.max_source_bytes }
+    requires folder { session.store.folder ≡ store_folder }
+    requires room { FitsPending session.store (bytes.now ∷ []) }
+    ensures other { session.store.tells ≡ true → OnOk result.1 (ListsNoOther session.store [] result.0.store) }
+    ensures pends { OnOk result.1 (Pends (bytes.now ∷ []) session.store result.0.store) }
     ensures counts { IfOk result.1 (λ counts. (counts.all ≡ length (chunking session.store.limits bytes.now)) × (counts.new ≤ counts.all)) }
     ensures planned { OnOk result.1 (HasPlan result.0.store bytes.now) }
     ensures added { IfOk result.1 (λ counts. AddsXorbs counts.new session.store result.0.store) }

@@ -3,6 +3,7 @@
 ghost use Rattle.std.specs.Prelude.{Some, ◌≡◌, ◌≤◌, ◌^◌, List, ℕ, true, [], length, IfErr, IfOk, OnOk, IsErrOf};
 ghost use Rattle.xet_io.specs.Disk.{entry_at as get};
 ghost use Rattle.xet_io.specs.Frame.{Called};
+ghost use Rattle.xet_folder.specs.Contents.{HasTooMany};
 ghost use Rattle.xet_folder.specs.Names.{IsForeign};
 ghost use Rattle.xet_program.specs.Answers.{AreSeparate};
 ghost use Rattle.xet_program.specs.Early.{max_input};
@@ -99,6 +100,7 @@ fn store_lines<D: Disk + Send, R: Threads + Wait + Sync>(
     ensures listed { D.tells disk ≡ true → KeepsListed now (D.files disk) (D.files result.0) }
     ensures keeps { D.tells disk ≡ true → KeepsFolder now (D.files disk) (D.files result.0) }
     ensures refused { D.tells disk ≡ true → (IsAdmittedAt now (D.files disk) → ⊥) → D.files result.0 ≡ D.files disk }
+    ensures overfull { D.tells disk ≡ true → HasTooMany (D.files disk) store_folder now → D.files result.0 ≡ D.files disk }
     ensures kept { D.tells disk ≡ true → IsIdle (Some (Pack limits.now workers)) (answer_outcome result.1).status → D.files result.0 ≡ D.files disk }
     ensures foreign { D.tells disk ≡ true → (name : List ℕ) → IsForeign store_folder name → get (D.files result.0) name ≡ get (D.files disk) name }
     ensures frame { Called D.tells D.faults disk result.0 (IsErrOf result.1 Stop.Disk) }

@@ -4,6 +4,7 @@ ghost use Rattle.std.specs.List.{AllByRecursion, flat_map};
 ghost use Rattle.std.specs.Prelude.{◌≡◌, ◌≤◌, ◌<◌, ◌^◌, ◌++◌, ℕ, List, true, length, map, All, IfErr, IfOk, OnOk, IsErrOf, IsOkUnless, IsSome};
 ghost use Rattle.xet_folder.specs.Contents.{HasContents};
 ghost use Rattle.xet_io.specs.Faults.{HasCause};
+ghost use Rattle.xet_shard.specs.Held.{nothing};
 ghost use Rattle.xet_store_disk.specs.Cleaning.{Keeps};
 ghost use Rattle.xet_store_disk.specs.Opening.{contents_of};
 ghost use Rattle.xet_store_disk.specs.Ranges.{IsUnchanged};
@@ -41,6 +42,7 @@ pub fn report_lines<D: Disk + Send, R: Threads + Wait + Sync>(
     requires good { are_good lines.now ≡ true }
     requires workers { (1 ≤ workers) × (workers ≤ 256) }
     requires folder { session.store.folder ≡ store_folder }
+    requires fresh { session.store.pending ≡ nothing }
     requires contents { session.store.tells ≡ true → HasContents session.store.files session.store.folder session.store.opened (contents_of session.store) }
     ensures answer { IsLinesAnswer lines.now session.store result.0.store result.1 }
     ensures keeps { Keeps session.store result.0.store }

@@ -8,13 +8,12 @@ use Rattle.std.proofs.lemmas.List.Sorted.{All-permutation, Contains-permutation}
 use Rattle.std.specs.Cmp.Lexicographic.{slice_cmp}
 use Rattle.std.specs.List.{All, AllByRecursion, AllPairs, Any, Contains, flat_map}
 use Rattle.std.specs.List.Sorted.{IsPermutation, IsSorted}
-use Rattle.std.specs.Option.{option_map}
 use Rattle.std.specs.Ordering.{is_lt, nat_cmp}
 use Rattle.std.specs.Prelude.{IsOk}
 use Rattle.xet_codec.specs.Parsing.{◌>>=◌}
 use Rattle.xet_hash.specs.declared.error.StoreError.{StoreError}
 use Rattle.xet_hash.specs.declared.error.StoreError.TheVariants as error
-use Rattle.xet_io.specs.Disk.{File, Files, file_at}
+use Rattle.xet_io.specs.Disk.{File, Files, file_at, stat_of}
 use Rattle.xet_shard.specs.Sections.{info_at}
 use Rattle.xet_shard.specs.declared.info.MDBShardInfo.{MDBShardInfo}
 use Rattle.xet_shard_directory.specs.Answers.{in_file}
@@ -43,8 +42,8 @@ loaded_in (Some f) h p s e = let value = value_in (info_at f.bytes) h p f.modifi
 
 -- ---- a list of entries
 
-modified_in : (found : Option File) (m n : ℕ) → option_map (λ (f : File). f.modified) found ≡ Some m → option_map (λ (f : File). f.modified) found ≡ Some n → m ≡ n
-modified_in found m n a b = cc
+modified_in : (stat : Option (ℕ × ℕ)) (l m k n : ℕ) → stat ≡ Some (l, m) → stat ≡ Some (k, n) → m ≡ n
+modified_in stat l m k n a b = let pair : ◌≡◌ {A = ℕ × ℕ} (l, m) (k, n) = cc (sym a ∙ b) in ap (λ (p : ℕ × ℕ). p.1) pair
 
 module _ (files : Files) (folder : List ℕ) where
   abbrev shards : List ShardEntry → List MDBShardFile
@@ -76,7 +75,7 @@ module _ (files : Files) (folder : List ℕ) where
 
   entry_differs : (a b : ShardEntry) → IsEntry files folder a → IsEntry files folder b → IsBefore a b → a.hash ≢ b.hash
   entry_differs a b there_a there_b (inl later) same =
-      let times = modified_in (file_at files (shard_path folder a.hash)) a.modified b.modified there_a.there (ap (λ (h : List ℕ). option_map (λ (f : File). f.modified) (file_at files (shard_path folder h))) same ∙ there_b.there) in
+      let times = modified_in (stat_of (file_at files (shard_path folder a.hash))) a.length a.modified b.length b.modified there_a.there (ap (λ (h : List ℕ). stat_of (file_at files (shard_path folder h))) same ∙ there_b.there) in
       absurd (omega (arith, times))
   entry_differs a b there_a there_b (inr (times, before)) same =
       let tie : is_lt (slice_cmp nat_cmp (shard_name a.hash) (shard_name b.hash)) ≡ false =

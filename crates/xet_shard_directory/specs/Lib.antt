@@ -4,6 +4,7 @@ pub mod Directories
 pub mod Exporting
 pub mod Integrity
 pub mod Reader
+pub mod Sized
 pub mod Standing
 pub mod Values
 pub mod Writing

@@ -11,11 +11,12 @@ ghost use Rattle.xet_shard_directory.specs.Answers.{IsFindError, IsReadError};
 ghost use Rattle.xet_shard_directory.specs.Directories.{AllRead, IsBeforeByPath, IsReadAt, IsUnloaded, ReadsFile, ReadsFolder, ReadsPath};
 ghost use Rattle.xet_shard_directory.specs.Values.{last_part, loaded};
 ghost use Rattle.xet_shard_directory.specs.internal.Folders.{IsListedRead, IsUnread, IsUnreadIn, listed, listed_shard, path_order, shard_in, unless_skipped, unless_vanished};
+ghost use Rattle.xet_shard_file.specs.Entries.{IsEntry};
 ghost use Rattle.xet_shard_file.specs.Names.{IsHash, shard_path};
 ghost use Rattle.xet_shard_format.specs.Names.{shard_name};
 
 use crate::paths::last_part;
-use crate::shard_file::{MDBShardFile, load};
+use crate::shard_file::{MDBShardFile, load, load_listed};
 use std::alloc::{AllocError, Global};
 use xet_hash::{MerkleHash, StoreError};
 use xet_io::Disk;
@@ -101,7 +102,7 @@ fn read_folder<D: Disk>(
 {
     let entries = list_shards(disk, alloc, folder)?;
     let mut shards = Vec::new(alloc);
-    match load_listed(alloc, disk, folder, &entries, skip_on_error, &mut shards) {
+    match load_entries(alloc, disk, folder, &entries, skip_on_error, &mut shards) {
         Ok(()) => Ok(by_path(shards)),
         Err(error) => Err(error),
     }
@@ -117,7 +118,7 @@ pub(crate) fn by_path(mut shards: Vec<MDBShardFile>) -> Vec<MDBShardFile>
 }
 
 /// Loads the listed shard files, and adds them to a list.
-fn load_listed<D: Disk>(
+fn load_entries<D: Disk>(
     alloc: Global,
     disk: &mut D,
     folder: &str,
@@ -125,6 +126,7 @@ fn load_listed<D: Disk>(
     skip_on_error: bool,
     shards: &mut Vec<MDBShardFile>,
 ) -> Result<(), StoreError>
+    requires { D.tells disk.old ≡ true → All (IsEntry (D.files disk.old) folder.now) entries.now }
     ensures told { D.tells disk.old ≡ true → OnOk result (shards.new.items ≡ shards.old.items ++ flat_map (listed_shard (D.files disk.old) folder.now) entries.now) }
     ensures all { D.tells disk.old ≡ true → skip_on_error ≡ false → OnOk result (All (IsListedRead (D.files disk.old) folder.now) entries.now) }
     ensures refused { D.tells disk.old ≡ true → IfErr result (λ e. Any (λ entry. IsUnread skip_on_error (listed (D.files disk.old) folder.now entry) e) entries.now) }
@@ -134,32 +136,33 @@ fn load_listed<D: Disk>(
     ensures reason { IfErr result (IsReadError (D.faults disk.old) (D.faults disk.new)) }
 {
     for entry in entries {
-        if let Some(shard) = load_entry(alloc, disk, folder, entry.hash, skip_on_error)? {
+        if let Some(shard) = load_entry(alloc, disk, folder, *entry, skip_on_error)? {
             shards.push(shard)?;
         }
     }
     Ok(())
 }
 
-/// The shard file of a folder with this hash in its name; none if it has vanished, or is malformed and errors are
+/// A listed shard file of a folder; none if it has vanished, or is malformed and errors are
 /// skipped.
 fn load_entry<D: Disk>(
     alloc: Global,
     disk: &mut D,
     folder: &str,
-    hash: MerkleHash,
+    entry: ShardEntry,
     skip_on_error: bool,
 ) -> Result<Option<MDBShardFile>, StoreError>
-    ensures told { D.tells disk.old ≡ true → IfOk result (λ found. option_to_list found ≡ shard_in (loaded (D.files disk.old) hash (shard_path folder.now hash))) }
-    ensures all { D.tells disk.old ≡ true → skip_on_error ≡ false → OnOk result (IsSome (file_at (D.files disk.old) (shard_path folder.now hash)) → IsOk (loaded (D.files disk.old) hash (shard_path folder.now hash))) }
-    ensures refused { D.tells disk.old ≡ true → IfErr result (IsUnread skip_on_error (loaded (D.files disk.old) hash (shard_path folder.now hash))) }
+    requires { D.tells disk.old ≡ true → IsEntry (D.files disk.old) folder.now entry }
+    ensures told { D.tells disk.old ≡ true → IfOk result (λ found. option_to_list found ≡ shard_in (loaded (D.files disk.old) entry.hash (shard_path folder.now entry.hash))) }
+    ensures all { D.tells disk.old ≡ true → skip_on_error ≡ false → OnOk result (IsSome (file_at (D.files disk.old) (shard_path folder.now entry.hash)) → IsOk (loaded (D.files disk.old) entry.hash (shard_path folder.now entry.hash))) }
+    ensures refused { D.tells disk.old ≡ true → IfErr result (IsUnread skip_on_error (loaded (D.files disk.old) entry.hash (shard_path folder.now entry.hash))) }
     ensures skipped { skip_on_error ≡ true → IfErr result (HasDiskReason (D.faults disk.old) (D.faults disk.new)) }
     ensures present { IsErrOf result StoreError.FileNotFound → ⊥ }
     ensures frame { Unchanged D.files D.tells D.faults disk.old disk.new }
     ensures reason { IfErr result (IsReadError (D.faults disk.old) (D.faults disk.new)) }
 {
-    let path = shard_path(alloc, folder, &hash)?;
-    let answer = load(alloc, disk, hash, path.as_str());
+    let path = shard_path(alloc, folder, &entry.hash)?;
+    let answer = load_listed(disk, path, entry);
     unless_vanished(unless_skipped(answer, skip_on_error))
 }
 

@@ -9,7 +9,7 @@ ghost use Rattle.xet_shard_directory.specs.Answers.{IsReadError};
 ghost use Rattle.xet_shard_directory.specs.Exporting.{Exports, IsUnexported, IsUnwrittenExport, KeptOrWroteExport, WroteExport};
 ghost use Rattle.xet_shard_file.specs.Names.{shard_path};
 
-use crate::reading::{modified, of_disk};
+use crate::reading::{of_disk, stat};
 use crate::shard_file::MDBShardFile;
 use crate::writing::write_shard_file;
 use std::alloc::Global;
@@ -74,7 +74,7 @@ impl MDBShardFile {
         ensures reason { IfErr result (IsReadError (D.faults disk.old) (D.faults disk.new)) }
     {
         let path = self.path.as_str();
-        modified(disk, path)?;
+        stat(disk, path)?;
         let mut reader = FileReader::new(disk, path);
         let mut sink = MemorySink::new(alloc);
         let answer = self.shard.export_as_keyed_shard(

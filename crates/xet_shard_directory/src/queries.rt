@@ -10,10 +10,10 @@ ghost use Rattle.xet_shard_directory.specs.Asked.{AnswersFile, AnswersRun, Answe
 ghost use Rattle.xet_shard_directory.specs.Answers.{GivesUnlessDisk, IsFileQueryError, IsQueryError, IsReadError, in_file};
 ghost use Rattle.xet_shard_format.specs.Lookups.{flat_places};
 
-use crate::reading::{is_there, of_disk};
+use crate::reading::{of_disk, size_of};
 use crate::shard_file::MDBShardFile;
+use crate::sized_reader::SizedFileReader;
 use std::alloc::Global;
-use xet_codec::FileReader;
 use xet_hash::{MerkleHash, StoreError};
 use xet_io::Disk;
 use xet_shard::{FileDataSequenceEntry, MDBFileInfo, XorbChunkSequenceHeader};
@@ -30,7 +30,7 @@ impl MDBShardFile {
         ensures frame { Unchanged D.files D.tells D.faults disk.old disk.new }
         ensures reason { IfErr result (IsReadError (D.faults disk.old) (D.faults disk.new)) }
     {
-        match self.get_reader(disk) {
+        match self.get_sized_reader(disk) {
             Ok(mut reader) => {
                 let answer = self.shard.read_all_xorb_blocks(alloc, &mut reader);
                 of_disk(answer, reader.was_out_of_memory())
@@ -49,7 +49,7 @@ impl MDBShardFile {
         ensures frame { Unchanged D.files D.tells D.faults disk.old disk.new }
         ensures reason { IfErr result (IsReadError (D.faults disk.old) (D.faults disk.new)) }
     {
-        match self.get_reader(disk) {
+        match self.get_sized_reader(disk) {
             Ok(mut reader) => {
                 let answer = self.shard.read_all_file_info_sections(alloc, &mut reader);
                 of_disk(answer, reader.was_out_of_memory())
@@ -69,7 +69,7 @@ impl MDBShardFile {
         ensures frame { Unchanged D.files D.tells D.faults disk.old disk.new }
         ensures reason { IfErr result (IsReadError (D.faults disk.old) (D.faults disk.new)) }
     {
-        match self.get_reader(disk) {
+        match self.get_sized_reader(disk) {
             Ok(mut reader) => {
                 let answer = self.shard.read_full_xorb_lookup(alloc, &mut reader);
                 of_disk(answer, reader.was_out_of_memory())
@@ -89,7 +89,7 @@ impl MDBShardFile {
         ensures frame { Unchanged D.files D.tells D.faults disk.old disk.new }
         ensures reason { IfErr result (IsReadError (D.faults disk.old) (D.faults disk.new)) }
     {
-        match self.get_reader(disk) {
+        match self.get_sized_reader(disk) {
             Ok(mut reader) => {
                 let answer = self.shard.read_all_truncated_hashes(alloc, &mut reader);
                 of_disk(answer, reader.was_out_of_memory())
@@ -113,10 +113,10 @@ impl MDBShardFile {
         ensures reason { IfErr result (IsFileQueryError (D.faults disk.old) (D.faults disk.new)) }
     {
         let path = self.path.as_str();
-        if !is_there(disk, path)? {
+        let Some(size) = size_of(disk, path)? else {
             return Ok(None);
-        }
-        let mut reader = FileReader::new(disk, path);
+        };
+        let mut reader = SizedFileReader::new(disk, path, size);
         let answer = self
             .shard
             .get_file_reconstruction_info(alloc, &mut reader, hash);
@@ -138,10 +138,10 @@ impl MDBShardFile {
         ensures reason { IfErr result (IsQueryError (D.faults disk.old) (D.faults disk.new)) }
     {
         let path = self.path.as_str();
-        if !is_there(disk, path)? {
+        let Some(size) = size_of(disk, path)? else {
             return Ok(None);
-        }
-        let mut reader = FileReader::new(disk, path);
+        };
+        let mut reader = SizedFileReader::new(disk, path, size);
         let answer = self.shard.chunk_hash_dedup_query(alloc, &mut reader, query);
         of_disk(answer, reader.was_out_of_memory())
     }
@@ -164,10 +164,10 @@ impl MDBShardFile {
         ensures reason { IfErr result (IsQueryError (D.faults disk.old) (D.faults disk.new)) }
     {
         let path = self.path.as_str();
-        if !is_there(disk, path)? {
+        let Some(size) = size_of(disk, path)? else {
             return Ok(None);
-        }
-        let mut reader = FileReader::new(disk, path);
+        };
+        let mut reader = SizedFileReader::new(disk, path, size);
         let answer = self
             .shard
             .chunk_hash_dedup_query_direct(alloc, &mut reader, query, row, place);
@@ -190,10 +190,10 @@ impl MDBShardFile {
         ensures reason { IfErr result (IsQueryError (D.faults disk.old) (D.faults disk.new)) }
     {
         let path = self.path.as_str();
-        if !is_there(disk, path)? {
+        let Some(size) = size_of(disk, path)? else {
             return Ok(None);
-        }
-        let mut reader = FileReader::new(disk, path);
+        };
+        let mut reader = SizedFileReader::new(disk, path, size);
         let answer = self
             .shard
             .chunk_hash_dedup_query_in_row(alloc, &mut reader, query, row, place);

@@ -6,9 +6,11 @@ ghost use Rattle.xet_codec.specs.Stops.{HasDiskReason};
 ghost use Rattle.xet_io.specs.Disk.{bytes_at, file_at};
 ghost use Rattle.xet_io.specs.Frame.{Unchanged};
 ghost use Rattle.xet_shard_directory.specs.Answers.{GivesUnlessDisk, IsFindError, in_file};
+ghost use Rattle.xet_shard_directory.specs.Sized.{is_observable};
 
-use crate::reading::is_there;
+use crate::reading::{is_there, size_of};
 use crate::shard_file::MDBShardFile;
+use crate::sized_reader::SizedFileReader;
 use xet_codec::FileReader;
 use xet_hash::StoreError;
 use xet_io::Disk;
@@ -62,6 +64,31 @@ impl MDBShardFile {
         match is_there(disk, path) {
             Ok(true) => Ok(FileReader::new(disk, path)),
             Ok(false) => Err(NoReader {
+                disk,
+                error: StoreError::FileNotFound,
+            }),
+            Err(error) => Err(NoReader { disk, error }),
+        }
+    }
+
+    /// A reader of the file's bytes that knows their number. `FileNotFound` if there is no file.
+    #[tactic(auto, using(crate::proofs::Presence::sized_present, crate::proofs::Presence::sized_absent, crate::proofs::Presence::disk_gives, crate::proofs::Presence::disk_finds))]
+    pub(crate) fn get_sized_reader<'a, D: Disk>(
+        &'a self,
+        disk: &'a mut D,
+    ) -> Result<SizedFileReader<'a, D>, NoReader<'a, D>>
+        ensures exact { D.tells disk.old ≡ true → GivesUnlessDisk (λ reader. bytes_of (D.files reader.disk.now) reader.name.now) (by_error result) (in_file (file_at (D.files disk.old) self.now.path) (λ f. Ok f.bytes)) }
+        ensures observable { D.tells disk.old ≡ true → IfOk result (λ r. is_observable (D.tells r.disk.now) r.size (bytes_of (D.files r.disk.now) r.name.now) ≡ true) }
+        ensures fresh { IfOk result (λ r. (r.name.now ≡ self.now.path) × (r.shortages ≡ 0)) }
+        ensures same_disk { IfOk result (λ r. r.disk.ghost_name ≡ disk.entry.ghost_name) }
+        ensures frame { IfOk result (λ r. Unchanged D.files D.tells D.faults disk.old r.disk.now) }
+        ensures refused { IfErr result (λ refused. (refused.disk.ghost_name ≡ disk.entry.ghost_name) × Unchanged D.files D.tells D.faults disk.old refused.disk.now) }
+        ensures reason { IfErr result (λ refused. IsFindError (D.faults disk.old) (D.faults refused.disk.now) refused.error) }
+    {
+        let path = self.path.as_str();
+        match size_of(disk, path) {
+            Ok(Some(size)) => Ok(SizedFileReader::new(disk, path, size)),
+            Ok(None) => Err(NoReader {
                 disk,
                 error: StoreError::FileNotFound,
             }),

@@ -3,7 +3,7 @@
 ghost use Rattle.std.specs.Prelude.{◌≡◌, ◌≢◌, ◌<◌, ◌⊎◌, ℕ, List, [], true, None, OnErr, Some, IfErr, IfOk, IsErrOf, IsOkUnless, Err, string_bytes};
 ghost use Rattle.xet_codec.specs.Stops.{HasDiskReason};
 ghost use Rattle.xet_hash.specs.Hash.{zero_hash};
-ghost use Rattle.xet_io.specs.Disk.{File, file_at};
+ghost use Rattle.xet_io.specs.Disk.{File, file_at, stat_of};
 ghost use Rattle.xet_io.specs.Frame.{Unchanged};
 ghost use Rattle.xet_shard.specs.Sections.{key_of};
 ghost use Rattle.xet_shard_directory.specs.Answers.{GivesUnlessDisk, IsBufferError, IsFindError, IsLoadError, IsReadError, first_bytes, in_file};
@@ -12,14 +12,14 @@ ghost use Rattle.xet_shard_file.specs.Names.{IsHash};
 ghost use Rattle.xet_shard_format.specs.Names.{shard_name};
 
 use crate::paths::last_part;
-use crate::reading::{info_of, modified};
+use crate::reading::{info_of, listed_info, stat};
 use std::alloc::Global;
 use xet_base::Text;
 use xet_codec::store_error;
 use xet_hash::{HMACKey, MerkleHash, StoreError};
 use xet_io::{Disk, read_file_at};
 use xet_shard::{MDBShardInfo, parse_shard_filename};
-use xet_shard_file::recall_bytes;
+use xet_shard_file::{ShardEntry, recall_bytes};
 
 /// A shard file on a disk: its path, and what was read of it.
 ///
@@ -62,7 +62,7 @@ impl MDBShardFile {
         ensures frame { Unchanged D.files D.tells D.faults disk.old disk.new }
         ensures reason { IfErr result (IsFindError (D.faults disk.old) (D.faults disk.new)) }
     {
-        let last_modified_time = modified(disk, path.as_str())?;
+        let (_, last_modified_time) = stat(disk, path.as_str())?;
         Ok(MDBShardFile {
             shard_hash: hash,
             path: Text::new(path),
@@ -167,14 +167,36 @@ pub(crate) fn load<D: Disk>(
     ensures frame { Unchanged D.files D.tells D.faults disk.old disk.new }
     ensures reason { IfErr result (IsReadError (D.faults disk.old) (D.faults disk.new)) }
 {
-    let last_modified_time = modified(disk, path)?;
-    let shard = info_of(disk, path)?;
+    let (size, last_modified_time) = stat(disk, path)?;
+    let shard = info_of(disk, path, size)?;
     let path = String::from_str(alloc, path)?;
     Ok(MDBShardFile {
         shard_hash: hash,
         path: Text::new(path),
         shard,
         last_modified_time,
+    })
+}
+
+/// The shard file at this path, as a folder listed it: with the hash in its name, its length and its modification time.
+/// `FileNotFound` if it has vanished since.
+pub(crate) fn load_listed<D: Disk>(
+    disk: &mut D,
+    path: String,
+    entry: ShardEntry,
+) -> Result<MDBShardFile, StoreError>
+    requires { D.tells disk.old ≡ true → stat_of (file_at (D.files disk.old) (string_bytes path)) ≡ Some (entry.length, entry.modified) }
+    ensures exact { D.tells disk.old ≡ true → GivesUnlessDisk (λ s. s) result (loaded (D.files disk.old) entry.hash (string_bytes path)) }
+    ensures absent { D.tells disk.old ≡ true → IsErrOf result StoreError.FileNotFound → file_at (D.files disk.old) (string_bytes path) ≡ None }
+    ensures frame { Unchanged D.files D.tells D.faults disk.old disk.new }
+    ensures reason { IfErr result (IsReadError (D.faults disk.old) (D.faults disk.new)) }
+{
+    let shard = listed_info(disk, path.as_str(), entry.length)?;
+    Ok(MDBShardFile {
+        shard_hash: entry.hash,
+        path: Text::new(path),
+        shard,
+        last_modified_time: entry.modified,
     })
 }
 

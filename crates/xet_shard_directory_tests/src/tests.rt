@@ -1,6 +1,7 @@
 //! The modules of tests.
 
 mod background_tests;
+mod calls_tests;
 mod directory_tests;
 mod folder_tests;
 mod index_tests;

@@ -1,5 +1,5 @@
 -- The lengths of runs that are put over one another, and of what they hold together.
-use Rattle.std.proofs.Common.{◌≡◌, inl, inr, ℕ, zero, suc, ◌+◌, ◌-◌, ◌*◌, ◌^◌, ◌<◌, ◌≤◌, true, false, cond, List, [], ◌∷◌, ◌++◌, fold, get_or, length, take, count_by, Option, Some, None, is_none, is_some, refl, sym, ap, ◌∙◌, arith, zero-le, add-mul, mul-le-mul_right}
+use Rattle.std.proofs.Common.{◌≡◌, inl, inr, ℕ, zero, suc, ◌+◌, ◌-◌, ◌*◌, ◌^◌, ◌<◌, ◌≤◌, true, false, cond, List, [], ◌∷◌, ◌++◌, fold, get_or, length, take, count_by, Option, Some, None, is_none, is_some, refl, sym, subst, ap, ◌∙◌, arith, zero-le, add-mul, mul-add, mul-le-mul_right, mul_comm}
 use Rattle.std.proofs.Math.Nat.{pow-suc}
 use Rattle.std.proofs.lemmas.List.{take_more}
 use Rattle.std.proofs.lemmas.List.Sums.{fold_push, sum_by-cons}
@@ -155,12 +155,41 @@ module _ (w : ℕ) (rs : List Run) (left : ℕ) (r : Run) (some : 0 < left) (wit
   pub over_newest : (made : Run) → over (over made r) (merged (take (left - 1) rs)) ≡ over made (merged (take left rs))
   over_newest made = over_assoc made r (merged (take (left - 1) rs)) (rising_merged (take (left - 1) rs)) ∙ ap (over made) (sym newest)
 
-pub steps_run : (b count left before now next : ℕ) → 0 < left → next ≤ now + b → now + left * b ≤ before + count * b → next + (left - 1) * b ≤ before + count * b
-steps_run b count left before now next some run so_far =
-    let e : left ≡ (left - 1) + 1 = omega (arith, some) in
-    let m = add-mul (left - 1) 1 b in
-    let f : left * b ≡ (left - 1) * b + 1 * b = ap (λ (n : ℕ). n * b) e ∙ m in
-    omega (arith, f, run, so_far)
+-- the length of a run has as many binary digits fewer than that of all as there are older runs
+digits_at : (rs : List Run) (i k b : ℕ) (d : Run) → AreRuns rs → i < length rs → first_length rs < 2 ^ b → b ≡ k + i → length (get_or rs i d) < 2 ^ k
+unfolding AreRuns first_length
+digits_at [] i k b d runs low fits sum = absurd (omega (arith, low))
+digits_at (r ∷ rs) zero k b d runs low fits sum = subst (λ (n : ℕ). length r < 2 ^ n) (omega (arith, sum)) fits
+digits_at (r ∷ rs) (suc i) k zero d runs low fits sum = absurd (omega (arith, sum))
+digits_at (r ∷ rs) (suc i) k (suc b) d runs low fits sum =
+    digits_at rs i k b d runs.3 (omega (arith, low)) (let p = pow-suc 2 b in omega (arith, p, fits, runs.2)) (omega (arith, sum))
 
-pub steps_all : (b count now before : ℕ) → count ≤ b → now ≤ before + count * b → now ≤ before + b * b
-steps_all b count now before few steps = let m = mul-le-mul_right {m = count} {n = b} b few in omega (arith, m, steps)
+first_fits : (rs : List Run) (b : ℕ) → AreRuns rs → length (merged rs) < 2 ^ b → 0 < length rs → first_length rs < 2 ^ b
+unfolding first_length
+first_fits [] b runs fits some = absurd (omega (arith, some))
+first_fits (r ∷ rs) b runs fits some = let l = length_run (r ∷ rs) 0 [] runs (omega arith) in omega (arith, l, fits)
+
+pub digits_run : (rs : List Run) (i b : ℕ) (r : Run) → AreRuns rs → i < length rs → r ≡ get_or rs i r → length (merged rs) < 2 ^ b → length r < 2 ^ (b - i)
+digits_run rs i b r runs low is fits =
+    let few = few_runs rs b runs fits in
+    subst (λ (x : Run). length x < 2 ^ (b - i)) (sym is) (digits_at rs i (b - i) b r runs low (first_fits rs b runs fits (omega (arith, low))) (omega (arith, few, low)))
+
+square_next : (k : ℕ) → (k + 1) * (k + 1) ≡ k * k + 2 * k + 1
+square_next k = let a = mul-add (k + 1) k 1 in let b = add-mul k 1 k in omega (arith, a, b)
+
+-- The steps in the runs from one on: at most a square. The run before them adds the next odd number.
+pub steps_run : (b left before now next : ℕ) → 0 < left → left ≤ b → next ≤ now + (2 * (b - (left - 1)) - 1) → now ≤ before + (b - left) * (b - left) → next ≤ before + (b - (left - 1)) * (b - (left - 1))
+steps_run b left before now next some few run so_far =
+    let e : b - (left - 1) ≡ (b - left) + 1 = omega (arith, some, few) in
+    let s : (b - (left - 1)) * (b - (left - 1)) ≡ (b - left + 1) * (b - left + 1) = ap (λ (n : ℕ). n * n) e in
+    let n = square_next (b - left) in
+    omega (arith, s, n, run, so_far, some, few)
+
+pub steps_all : (b left now before : ℕ) → now ≤ before + (b - left) * (b - left) → now ≤ before + b * b
+steps_all b left now before steps =
+    let x : ℕ = b - left in
+    let less : x ≤ b = omega arith in
+    let m = mul-le-mul_right {m = x} {n = b} x less in
+    let n = mul-le-mul_right {m = x} {n = b} b less in
+    let e : b * x ≡ x * b = mul_comm b x in
+    omega (arith, m, n, e, steps)

@@ -1,11 +1,13 @@
 //! Where the words with each value of their leading bits begin in a sorted run.
 
-ghost use Rattle.std.specs.Prelude.{◌≡◌, ◌*◌, ◌/◌, ◌^◌, ◌<◌, ◌≤◌, ℕ, List, [], IfOk, OnOk, length, slice_index_or};
-ghost use Rattle.xet_shard_index.specs.Runs.{IsBetween, Item, Rising};
+ghost use Rattle.std.specs.Prelude.{◌≡◌, ◌*◌, ◌/◌, ◌^◌, ◌+◌, ◌<◌, ◌≤◌, ℕ, List, [], ◌↔◌, IfOk, IfSome, IsTrue, OnOk, length, slice_index_or};
+ghost use Rattle.xet_shard_index.specs.Runs.{Item, Rising};
 ghost use Rattle.xet_shard_index.specs.internal.Starts.{AreStarts, IsStart};
 
 use crate::packed_item::PackedItem;
+use crate::steps::Steps;
 use std::alloc::{AllocError, Global};
+use std::sync::ledger::Ledger;
 
 /// For each value of the leading bits of a word, the index of the first item with that value or a greater one. Runs of fewer
 /// than 8 items, or of 2^32 or more, have none; other runs have one for 4 to 8 items.
@@ -22,6 +24,7 @@ impl Starts {
     pub(crate) fn new(alloc: Global, items: &[PackedItem]) -> Result<Starts, AllocError>
         requires { Rising items.now }
         ensures starts { IfOk result (λ s. AreStarts s.shift items.now s.starts.items) }
+        ensures none { IfOk result (λ s. length items.now < 8 → s.starts.items ≡ []) }
         ensures few { IfOk result (λ s. 4 * length s.starts.items ≤ length items.now) }
         ensures many { IfOk result (λ s. 8 ≤ length items.now → length items.now < 2 ^ 32 → length items.now < 8 * length s.starts.items) }
     {
@@ -39,19 +42,29 @@ impl Starts {
         })
     }
 
-    /// From which item on, and before which one, a word can stand in a run of so many items with these starts. It does not see
-    /// their words.
-    pub(crate) fn range(&self, count: u64, word: u64) -> (u64, u64)
-        ensures { (run : List Item) → length run ≡ count → AreStarts self.now.shift run self.now.starts.items → IsBetween run word result.0 result.1 }
+    /// Whether there is no start.
+    pub(crate) fn is_empty(&self) -> bool
+        ensures { IsTrue result ↔ (self.now.starts.items ≡ []) }
     {
-        let leading = (word >> self.shift) as usize;
-        let Some(low) = self.starts.get(leading) else {
-            return (0, count);
-        };
-        match self.starts.get(leading + 1) {
-            Some(high) => (u64::from(*low), u64::from(*high)),
-            None => (u64::from(*low), count),
-        }
+        self.starts.is_empty()
+    }
+
+    /// The leading bits of a word.
+    pub(crate) fn leading(&self, word: u64) -> u64
+        ensures { result ≡ word / 2 ^ self.now.shift }
+    {
+        word >> self.shift
+    }
+
+    /// The start of a value, if there is one. It takes one step, and nothing else reads a start.
+    pub(crate) fn read<L: Ledger>(&self, value: u64, steps: &mut Steps<L>) -> Option<u64>
+        ensures start { IfSome result (λ start. (run : List Item) → AreStarts self.now.shift run self.now.starts.items → IsStart self.now.shift run value start) }
+        ensures few { IfSome result (λ _. value + 1 < 2 ^ 64) }
+        ensures steps { steps.new ≡ steps.old + 1 }
+    {
+        steps.tick();
+        let start = self.starts.get(value as usize)?;
+        Some(u64::from(*start))
     }
 }
 

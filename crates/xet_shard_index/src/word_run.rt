@@ -23,7 +23,7 @@ pub struct WordRun {
 }
 
 impl Model for WordRun {
-    ghost use Rattle.std.specs.Prelude.{ℕ, List};
+    ghost use Rattle.std.specs.Prelude.{◌≡◌, ℕ, ◌<◌, List, [], length};
     ghost use Rattle.xet_shard_index.specs.declared.word_place.WordPlace.{WordPlace};
     ghost use Rattle.xet_shard_index.specs.Runs.{Rising};
     ghost use Rattle.xet_shard_index.specs.internal.Starts.{AreStarts};
@@ -32,7 +32,7 @@ impl Model for WordRun {
 
     ghost view = { λ r. r.items.items };
 
-    ghost invariant = { λ r. Rising r.items.items × AreStarts r.starts.shift r.items.items r.starts.starts.items };
+    ghost invariant = { λ r. Rising r.items.items × AreStarts r.starts.shift r.items.items r.starts.starts.items × (length r.items.items < 8 → r.starts.starts.items ≡ []) };
 }
 
 impl WordRun {
@@ -64,7 +64,8 @@ impl WordRun {
 
     /// Where words begin.
     pub(crate) fn starts(&self) -> &Starts
-        ensures { AreStarts result.now.shift self.now result.now.starts.items }
+        ensures starts { AreStarts result.now.shift self.now result.now.starts.items }
+        ensures none { length self.now < 8 → result.now.starts.items ≡ [] }
     {
         &self.starts
     }

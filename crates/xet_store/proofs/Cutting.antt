@@ -92,11 +92,11 @@ module _ {G : Type 0} (v : G → Held) (files : Files) (a b c : State) (xs ys : 
   last = recorded_state c files (map (option_map v) ys) l
 
   -- out of memory after it
-  pub cut_refuses_memory : Cuts pass bytes first cut → (kind : StepKind) (size : ℕ) → bytes ≡ size → c ≡ b → CutRefuses pass kind size first (recorded_state c files (map (option_map v) ys) k) OutOfMemory
-  cut_refuses_memory cuts kind size same unchanged =
+  pub cut_refuses_memory : Cuts pass bytes first cut → (kind : StepKind) (size : ℕ) → kind ≢ step.Flush → bytes ≡ size → c ≡ b → CutRefuses pass kind size first (recorded_state c files (map (option_map v) ys) k) OutOfMemory
+  cut_refuses_memory cuts kind size other same unchanged =
       subst (λ (n : ℕ). CutRefuses pass kind n first (recorded_state c files (map (option_map v) ys) k) OutOfMemory) same
       (subst (λ (x : State). CutRefuses pass kind bytes first (recorded_state x files (map (option_map v) ys) k) OutOfMemory) (sym unchanged)
-      (record { refuses = refuses_then pass kind _ first cut cut OutOfMemory cuts.steps (steps_nothing cut) tt }))
+      (record { refuses = refuses_then pass kind _ first cut cut OutOfMemory other cuts.few cuts.steps (steps_nothing cut) tt }))
 
   -- then no file was put
   pub complete_tries_memory : Cuts pass bytes first cut → (file : MDBFileInfo) → found a.records (file_record_hash file) ≡ None → bytes ≡ file_record_size file → c ≡ b
@@ -116,11 +116,11 @@ module _ {G : Type 0} (v : G → Held) (files : Files) (a b c : State) (xs ys : 
         cut last (xorb_path b.folder hash) cuts.steps.keeps.tells cuts.steps.keeps.folder cuts.changes (inl (sym path)) others
 
     -- a failure after it
-    pub cut_refuses_then : (kind : StepKind) (size : ℕ) (e : StoreError) → bytes ≡ size → tables_of c ≡ tables_of b → HasDiskReason b.faults c.faults e → l ≡ k ++ fault_entries pass kind e → CutRefuses pass kind size first last e
-    cut_refuses_then kind size e same tables reason noted =
+    pub cut_refuses_then : (kind : StepKind) (size : ℕ) (e : StoreError) → kind ≢ step.Flush → bytes ≡ size → tables_of c ≡ tables_of b → HasDiskReason b.faults c.faults e → l ≡ k ++ fault_entries pass kind e → CutRefuses pass kind size first last e
+    cut_refuses_then kind size e other same tables reason noted =
         let failed : Steps cut last (fault_entries pass kind e) =
         steps_fault files b c (map (option_map v) ys) k keeps (ap (λ (t : Tables). t.pending) tables) shards (ap (λ (t : Tables). t.xorbs) tables) (ap (λ (t : Tables). t.records) tables) pass kind e l noted in
-        subst (λ (n : ℕ). CutRefuses pass kind n first last e) same (record { refuses = refuses_then pass kind _ first cut last e cuts.steps failed reason })
+        subst (λ (n : ℕ). CutRefuses pass kind n first last e) same (record { refuses = refuses_then pass kind _ first cut last e other cuts.few cuts.steps failed reason })
 
     -- a xorb after it
     pub registered_due : (hash : List ℕ) (leaves chunks next : Leaves) → found a.xorbs hash ≡ None → hash ≡ xorb_hash leaves → chunks ≡ leaves → bytes ≡ xorb_record_size (xorb_record hash leaves) → b.xorbs ≡ a.xorbs

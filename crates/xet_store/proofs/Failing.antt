@@ -10,7 +10,7 @@ use Rattle.xet_hash.specs.declared.error.What.TheVariants.{Shards}
 use Rattle.xet_completion.specs.Completing.{Completes}
 use Rattle.xet_cut.specs.declared.limits.LimitSettings.{LimitSettings}
 use Rattle.xet_history.specs.Core.{Core, RegisteredShard, is_cut_due, pending_hash}
-use Rattle.xet_history.specs.History.{after_all, cut_entries}
+use Rattle.xet_history.specs.History.{after_all, complete_entries, cut_entries}
 use Rattle.xet_history.specs.declared.entry.Entry.{Entry}
 use Rattle.xet_history.specs.declared.entry.Entry.TheVariants.{Flush}
 use Rattle.xet_history.specs.declared.entry.StepKind.{StepKind}
@@ -18,12 +18,15 @@ use Rattle.xet_history.specs.declared.entry.StepKind.TheVariants as kind
 use Rattle.xet_io.specs.Faults.{Rose}
 use Rattle.xet_shard_format.specs.Records.{IsFile}
 use Rattle.xet_shard_format.specs.declared.record.MDBFileInfo.{MDBFileInfo}
+use Rattle.xet_store.specs.Changes.{Tries, files_of}
 use Rattle.xet_store.specs.Recorded.{AreShards, RecordedState, core_of}
 use Rattle.xet_store.specs.Steps.{FailsAsking, IsOtherFile, IsStepError, Refuses, Steps, fault_entries}
+use Rattle.xet_store.specs.theorems.Changing.{changes_nothing, changes_unread}
 use Rattle.xet_store.specs.theorems.Joining.{steps_nothing}
 use Rattle.xet_store_disk.specs.Asking.{IsAskingError}
+use Rattle.xet_store_disk.specs.Ranges.{IsUnchanged}
 use Rattle.xet_store_disk.specs.Store.{State}
-use Rattle.xet_store.specs.Alone.{IsAlone, IsFault, MayBeAsked, Step, alone_of, cut_of, kind_of}
+use Rattle.xet_store.specs.Alone.{IsAlone, IsFault, MayBeAsked, Step, alone_of, attempted, cut_of, kind_of}
 use Rattle.xet_store.specs.Holders.{Holder, core_found}
 use Rattle.xet_store.specs.Stepping.{IsStepReason, SawError, SawOther, no_cut}
 use Rattle.xet_store.proofs.Entries.{done_cases, size_of}
@@ -117,9 +120,9 @@ module _ (start now new : RecordedState) (is : IsAlone start now false) (e : Sto
     reason = reason_of_query start.store.tells now.store.faults new.store.faults (core_found before []) e (subst (λ (t : Bool). IsAskingError t now.store.faults new.store.faults e) is.steps.keeps.tells fails.reason);
   }
 
-  pub alone_query_error : FailsAsking 0 now new e → IsAlone start new true
-  alone_query_error fails =
-      alone_failed start now is new Step.asks tt e [] (inl refl) fails.steps (rose_of_query now.store.tells now.store.faults new.store.faults e fails.reason)
+  pub alone_query_error : FailsAsking 0 now new e → IsUnchanged now.store new.store → IsAlone start new true
+  alone_query_error fails unchanged =
+      alone_failed start now is new Step.asks tt e [] (inl refl) fails.steps (changes_unread now new [] unchanged) (rose_of_query now.store.tells now.store.faults new.store.faults e fails.reason)
 
   -- a step before which a cut may be due
   module _ (step : Step) (fails : Refuses 0 (kind_of step) (cut_of 0 now.store.limits.shard_target step c) now new e) where
@@ -150,8 +153,8 @@ module _ (start now new : RecordedState) (is : IsAlone start now false) (e : Sto
           (reason_of_step k start.store.tells (cut c) now.store new.store.faults c e other (sym (ap (λ (l : List (List ℕ)). length l) are.registered) ∙ length-map now.shards (λ (r : RegisteredShard). r.hash)) reason);
     }
 
-    pub alone_error : MayBeAsked start.store.limits step → IsAlone start new true
-    alone_error asked = alone_failed start now is new step asked e fails.done completed fails.steps (rose_of_step k (cut c) now.store new.store.faults e reason)
+    pub alone_error : MayBeAsked start.store.limits step → Tries now new (attempted 0 now.store.limits.shard_target step c) → IsAlone start new true
+    alone_error asked tries = alone_failed start now is new step asked e fails.done completed fails.steps tries (rose_of_step k (cut c) now.store new.store.faults e reason)
 
   -- a file that may not be recorded
   pub saw_other : (file : MDBFileInfo) → IsOtherFile now new file e → SawOther file before after e
@@ -167,4 +170,5 @@ module _ (start now new : RecordedState) (is : IsAlone start now false) (e : Sto
   alone_other file form other =
       let steps : Steps now new [] = subst (λ (s : RecordedState). Steps now s []) (sym other.same) (steps_nothing now) in
       let none : fault_entries 0 kind.Complete e ≡ [] = ap (fault_entries 0 kind.Complete) other.error in
-      alone_failed start now is new (Step.completes file) form e [] (inl refl) (subst (Steps now new) (sym none) steps) (λ any. absurd (no_fault [] tt (subst (Any IsFault) none any)))
+      alone_failed start now is new (Step.completes file) form e [] (inl refl) (subst (Steps now new) (sym none) steps)
+      (changes_nothing (files_of now.store.folder (complete_entries 0 c now.store.limits.shard_target file)) now new [] other.same) (λ any. absurd (no_fault [] tt (subst (Any IsFault) none any)))

@@ -1,5 +1,5 @@
 -- What a holder has seen after calls, and the calls among its own entries.
-use Rattle.std.proofs.Common.{◌≡◌, ◌∙◌, ℕ, ◌+◌, Bool, true, false, List, [], ◌∷◌, ◌++◌, drop, length, sym, ap, append_assoc, length-append, arith}
+use Rattle.std.proofs.Common.{◌≡◌, ◌∙◌, ℕ, ◌+◌, Bool, true, false, List, [], ◌++◌, drop, length, sym, ap, append_assoc, length-append, arith}
 use Rattle.std.proofs.Math.Seq.{drop-append_seam}
 use Rattle.std.proofs.lemmas.List.{append-nil}
 use Rattle.xet_history.specs.History.{after_all}
@@ -35,8 +35,11 @@ module _ (start now new : RecordedState) (stopped : Bool) (since added : List En
       ∙ ap (λ (es : List Entry). record (with_since es) { since = es ++ ([] ++ added); own = numbered first es ++ numbered (length (start.history ++ es) + 0) added }) (sym (since_is start.history since now.history before))
 
 -- the core that it has seen is that of the store
+pub core_seen : (start now : RecordedState) (stopped : Bool) (since : List Entry) → Steps start now since → core_at (alone_of start now stopped) ≡ core_of now
+core_seen start now stopped since steps = ap (after_all (core_of start)) (since_is start.history since now.history steps.moves.history) ∙ sym steps.moves.leads
+
 pub core_alone : (start now : RecordedState) (stopped was : Bool) → IsAlone start now was → core_at (alone_of start now stopped) ≡ core_of now
-core_alone start now stopped was is = ap (after_all (core_of start)) (since_is start.history is.since now.history is.steps.moves.history) ∙ sym is.steps.moves.leads
+core_alone start now stopped was is = core_seen start now stopped is.since is.steps
 
 pub found_alone : (start now : RecordedState) (stopped was : Bool) → IsAlone start now was → core_found (alone_of start now stopped) [] ≡ core_of now
 found_alone start now stopped was is = ap (after_all (core_of start)) (append-nil (drop (length start.history) now.history)) ∙ core_alone start now stopped was is

@@ -8,7 +8,7 @@ use Rattle.xet_history.specs.Core.{Core}
 use Rattle.xet_history.specs.History.{Legal}
 use Rattle.xet_history.specs.declared.entry.Entry.{Entry}
 use Rattle.xet_store.specs.Recorded.{RecordedState, core_of}
-use Rattle.xet_store.specs.Alone.{IsAlone, StepsTo, StepsUntil, alone_of}
+use Rattle.xet_store.specs.Alone.{IsAlone, MakesSteps, MakesStepsUntil, alone_of}
 use Rattle.xet_store.specs.Holders.{Holder, IsHolder, IsOwn, numbered, seen}
 use Rattle.xet_store.proofs.Entries.{IsMade, steps_made, until_made}
 use Rattle.xet_store.proofs.Growing.{since_is}
@@ -61,6 +61,6 @@ holds_alone start now stopped is =
     c : Core
     c = core_of start
 
-    made : (b : Bool) → (b ≡ false → StepsTo start.store.limits 0 (core_of start) is.since) → (b ≡ true → (e : StoreError) × StepsUntil start.store.limits 0 (core_of start) e is.since) → AllByRecursion (IsMade start.store.limits 0) is.since
-    made true whole until = until_made limits 0 c (until refl).0 is.since (until refl).1
-    made false whole until = steps_made limits 0 c is.since (whole refl)
+    made : (b : Bool) → (b ≡ false → MakesSteps start now is.since) → (b ≡ true → (e : StoreError) × MakesStepsUntil e start now is.since) → AllByRecursion (IsMade start.store.limits 0) is.since
+    made true whole until = until_made limits 0 c (until refl).0 is.since (until refl).1.steps
+    made false whole until = steps_made limits 0 c is.since (whole refl).steps

@@ -103,11 +103,13 @@ module _ (files : Files) (old new : State) (flushed : List (Option Held)) (histo
         leads x = refl
 
 -- nothing is pending
-pub steps_idle : (s : RecordedState) (pass : ℕ) → s.store.pending ≡ nothing → Steps s s (flush_entries pass (core_of s))
-steps_idle s pass none =
+pub flush_idle : (s : RecordedState) (pass : ℕ) → s.store.pending ≡ nothing → flush_entries pass (core_of s) ≡ []
+flush_idle s pass none =
     let idle : has_pending (core_of s) ≡ false = ap (λ (p : Held). nat_lt 0 (length p.blocks + length p.files)) none in
-    let entries : flush_entries pass (core_of s) ≡ [] = ap (λ (b : Bool). if b then Flush pass (pending_hash (core_of s)) ∷ [] else []) idle in
-    subst (λ (es : List Entry). Steps s s es) (sym entries) (steps_nothing s)
+    ap (λ (b : Bool). if b then Flush pass (pending_hash (core_of s)) ∷ [] else []) idle
+
+pub steps_idle : (s : RecordedState) (pass : ℕ) → s.store.pending ≡ nothing → Steps s s (flush_entries pass (core_of s))
+steps_idle s pass none = subst (λ (es : List Entry). Steps s s es) (sym (flush_idle s pass none)) (steps_nothing s)
 
 module _ (files : Files) (old new : State) (flushed : List (Option Held)) (history : List Entry) (keeps : Keeps old new) (h : List ℕ) (flush : IsFlushed old h new) (count : length flushed ≡ length old.shards) where
   abbrev core : Core
@@ -156,12 +158,16 @@ pub steps_pushed : {G : Type 0} (v : G → Held) (files : Files) (old new : Stat
     → Flushes pass (recorded_state old files (map (option_map v) xs) history) (recorded_state new files (map (option_map v) ys) more)
 steps_pushed v files old new o h some keeps flush none xs ys g history more pass count pushed is added = record {
   steps = subst (λ (fs : List (Option Held)). Steps (recorded_state old files (map (option_map v) xs) history) (recorded_state new files fs more) (flush_entries pass (core_of (recorded_state old files (map (option_map v) xs) history)))) (sym (kept_pushed v xs ys g old.pending pushed is))
-      (steps_flush files old new (map (option_map v) xs) history keeps h (subst (λ (x : Option (List ℕ)). IfSome x (λ shard. IsFlushed old shard new)) some flush) (length-map xs (option_map v) ∙ count) pass
+      (steps_flush files old new (map (option_map v) xs) history keeps h flushed (length-map xs (option_map v) ∙ count) pass
       busy more added);
   changes = changes_flush (recorded_state old files (map (option_map v) xs) history) (recorded_state new files (map (option_map v) ys) more) h pass (pending_if old.pending busy)
-      (subst (λ (x : Option (List ℕ)). IfSome x (λ shard. IsFlushed old shard new)) some flush);
+      flushed;
+  few = λ due. flushed.few;
 }
   where
+    flushed : IsFlushed old h new
+    flushed = subst (λ (x : Option (List ℕ)). IfSome x (λ shard. IsFlushed old shard new)) some flush
+
     busy : old.pending ≢ nothing
     busy idle = let bad : ◌≡◌ {A = Option (List ℕ)} (Some h) None = sym some ∙ none.1 idle in cc bad
 
@@ -183,7 +189,7 @@ module _ {G : Type 0} (v : G → Held) (files : Files) (s t : State) (xs ys : Li
 
   -- none is due
   pub steps_uncut : b ≡ false → Cuts pass bytes here here
-  steps_uncut not_due = record { steps = subst (λ (es : List Entry). Steps here here es) (sym (cut_if false (sym (is (core_of here) refl) ∙ not_due))) (steps_nothing here); changes = changes_nothing [] here here _ refl }
+  steps_uncut not_due = record { steps = subst (λ (es : List Entry). Steps here here es) (sym (cut_if false (sym (is (core_of here) refl) ∙ not_due))) (steps_nothing here); changes = changes_nothing [] here here _ refl; few = λ due. absurd (due (cut_if false (sym (is (core_of here) refl) ∙ not_due))) }
 
   -- one is due, and something was flushed
   pub steps_cut : b ≡ true → Flushes pass here there → Cuts pass bytes here there
@@ -191,4 +197,4 @@ module _ {G : Type 0} (v : G → Held) (files : Files) (s t : State) (xs ys : Li
       let cut : is_cut_due (core_of here) s.limits.shard_target bytes ≡ true = sym (is (core_of here) refl) ∙ due in
       let flush : flush_entries pass (core_of here) ≡ entry = ap (λ (x : Bool). if x then entry else []) (due_has_pending (core_of here) s.limits.shard_target bytes cut) in
       let entries = flush ∙ sym (cut_if true cut) in
-      record { steps = subst (λ (es : List Entry). Steps here there es) entries flushed.steps; changes = subst (λ (es : List Entry). ChangesFiles [] here there es) entries flushed.changes }
+      record { steps = subst (λ (es : List Entry). Steps here there es) entries flushed.steps; changes = subst (λ (es : List Entry). ChangesFiles [] here there es) entries flushed.changes; few = λ some. flushed.few (λ none. some (sym entries ∙ none)) }

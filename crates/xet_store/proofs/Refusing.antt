@@ -1,8 +1,9 @@
 -- What a call that failed has added, and that the history still leads to the core after each call.
-use Rattle.std.proofs.Common.{◌≡◌, ◌≢◌, ◌⊎◌, ◌∙◌, inl, inr, ℕ, ◌≤◌, List, [], ◌∷◌, ◌++◌, length, map, Option, option_map, Result, Ok, Err, OnOk, OnErr, IfErr, refl, sym, ap, subst}
+use Rattle.std.proofs.Common.{◌≡◌, ◌≢◌, ◌⊎◌, ◌∙◌, inl, inr, ℕ, ◌<◌, ◌≤◌, List, [], ◌∷◌, ◌++◌, length, map, Option, option_map, Result, Ok, Err, OnOk, OnErr, IfErr, refl, sym, ap, subst, arith}
 use Rattle.std.specs.Result.{IsErrAnd}
 use Rattle.xet_base.specs.theorems.Exits.{exit_with}
 use Rattle.xet_codec.specs.Stops.{HasDiskReason}
+use Rattle.xet_folder.specs.Contents.{max_shards}
 use Rattle.xet_hash.specs.declared.error.StoreError.{StoreError}
 use Rattle.xet_hash.specs.declared.error.StoreError.TheVariants.{Io, OutOfMemory, TooLarge}
 use Rattle.xet_hash.specs.declared.error.Place.TheVariants.{Disk}
@@ -13,7 +14,7 @@ use Rattle.xet_shard_file.specs.theorems.Exits.{rose_before}
 use Rattle.xet_history.specs.declared.entry.Entry.{Entry}
 use Rattle.xet_history.specs.declared.entry.StepKind.{StepKind}
 use Rattle.xet_history.specs.declared.entry.StepKind.TheVariants.{Flush}
-use Rattle.xet_store_disk.specs.Flushing.{IsFlushError}
+use Rattle.xet_store_disk.specs.Flushing.{IsFlushError, IsFull}
 use Rattle.xet_shard_registry.specs.Collections.{Tables}
 use Rattle.xet_store_disk.specs.Ranges.{IsUnchanged}
 use Rattle.xet_store_disk.specs.Store.{State}
@@ -47,20 +48,25 @@ step_of_disk kind cut s after e is = is
 module _ (pass : ℕ) (kind : StepKind) (cut : List Entry) where
   -- out of memory before anything was done
   pub refuses_memory : (s t : RecordedState) → t ≡ s → Refuses pass kind cut s t OutOfMemory
-  refuses_memory s t same = record { done = []; completed = inl refl; steps = subst (λ (x : RecordedState). Steps s x []) (sym same) (steps_nothing s); reason = tt }
+  refuses_memory s t same = record { done = []; completed = inl refl; steps = subst (λ (x : RecordedState). Steps s x []) (sym same) (steps_nothing s); reason = tt; full = λ full due. (inr refl, same) }
 
   -- a failure before a cut was completed
   pub refuses_first : (s t : RecordedState) (e : StoreError) → (kind ≡ Flush) ⊎ (cut ≢ []) → Faults pass kind s t e → Refuses pass kind cut s t e
-  refuses_first s t e due failed = record { done = []; completed = inl refl; steps = failed.steps; reason = step_of_flush kind cut s.store t.store.faults e due failed.reason }
+  refuses_first s t e due failed = record { done = []; completed = inl refl; steps = failed.steps; reason = step_of_flush kind cut s.store t.store.faults e due failed.reason; full = λ full asked. (inl (failed.full full).0, (failed.full full).1) }
 
-  -- a failure after it
-  pub refuses_then : (a b c : RecordedState) (e : StoreError) → Steps a b cut → Steps b c (fault_entries pass kind e) → HasDiskReason b.store.faults c.store.faults e → Refuses pass kind cut a c e
-  refuses_then a b c e first then reason = record {
+  -- a failure after it, so that a further shard could be registered
+  pub refuses_then : (a b c : RecordedState) (e : StoreError) → kind ≢ Flush → (cut ≢ [] → length a.store.shards < max_shards) → Steps a b cut → Steps b c (fault_entries pass kind e) → HasDiskReason b.store.faults c.store.faults e → Refuses pass kind cut a c e
+  refuses_then a b c e other few first then reason = record {
     done = cut;
     completed = inr refl;
     steps = steps_then a b c cut (fault_entries pass kind e) first then;
     reason = step_of_disk kind cut a.store c.store.faults e (reason_before a.store.faults b.store.faults c.store.faults e first.keeps.later reason);
+    full = λ full due. absurd (go full due);
   }
+    where
+      go : IsFull a.store → (kind ≡ Flush) ⊎ (cut ≢ []) → ⊥
+      go full (inl flush) = other flush
+      go full (inr due) = let less = few due in omega (arith, less, full.full)
 
 module _ {G : Type 0} (v : G → Held) (files : Files) where
   abbrev at : State → List (Option G) → List Entry → RecordedState

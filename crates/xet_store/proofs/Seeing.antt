@@ -1,7 +1,6 @@
 -- What a completed step of a store that one caller has alone is for its holder.
-use Rattle.std.proofs.Common.{◌≡◌, ◌≢◌, ◌∙◌, ℕ, Bool, true, false, List, [], ◌∷◌, take, Option, Some, None, IfSome, refl, sym, ap, subst}
+use Rattle.std.proofs.Common.{◌≡◌, ◌≢◌, ◌∙◌, ℕ, Bool, true, false, List, [], ◌∷◌, ◌++◌, take, Option, Some, None, IfSome, refl, sym, ap, subst}
 use Rattle.xet_completion.specs.Completing.{Completes}
-use Rattle.xet_dedup_queries.specs.Registering.{IsDue}
 use Rattle.xet_folder.specs.Xorbs.{IsListed}
 use Rattle.xet_hash.specs.Hash.{sentinel}
 use Rattle.xet_hash.specs.Merkle.{xorb_hash}
@@ -18,11 +17,12 @@ use Rattle.xet_shard_format.specs.declared.record.FileDataSequenceEntry.{FileDat
 use Rattle.xet_shard_format.specs.declared.record.MDBFileInfo.{MDBFileInfo}
 use Rattle.xet_store.specs.Recorded.{RecordedState, core_of}
 use Rattle.xet_store.specs.Steps.{Steps}
-use Rattle.xet_store.specs.Alone.{IsAlone, MayBeAsked, Step, alone_of}
-use Rattle.xet_store.specs.Holders.{Holder, core_at, core_found, grown, xorb_limits}
+use Rattle.xet_store.specs.theorems.Joining.{steps_both}
+use Rattle.xet_store.specs.Alone.{IsAlone, alone_of}
+use Rattle.xet_store.specs.Holders.{Holder, core_at, core_found, grown}
 use Rattle.xet_store.specs.Stepping.{SawComplete, SawQuery, SawRegister}
-use Rattle.xet_store.proofs.Growing.{core_alone, found_alone, holder_grown}
-use Rattle.xet_store.proofs.Steps.{alone_queried, alone_registered, limits_now}
+use Rattle.xet_store.proofs.Growing.{core_seen, found_alone, holder_grown}
+use Rattle.xet_store.proofs.Steps.{limits_now}
 
 -- a query leads to the same core
 query_leads : (c : Core) (pass : ℕ) (hashes : List (List ℕ)) (reply : Option (ℕ × Segment)) → c ≡ after_all c (query_entries pass hashes reply)
@@ -50,6 +50,10 @@ module _ (start now new : RecordedState) (is : IsAlone start now false) where
   found_is : core_found before [] ≡ c
   found_is = found_alone start now false false is
 
+  -- the core that it has seen after the step
+  core_both : (added : List Entry) → Steps now new added → core_at after ≡ core_of new
+  core_both added steps = core_seen start new false (is.since ++ added) (steps_both start now new is.since added is.steps steps)
+
   pub saw_query : (hashes : List (List ℕ)) (reply : Option (ℕ × Segment)) → Steps now new (query_entries 0 hashes reply) → IfSome reply (IsUsableRun now.store.xorbs hashes)
       → ((run : ℕ × Segment) → held_run now.store.pending.blocks hashes ≡ Some run → reply ≡ Some run) → (now.store.tells ≡ true → reply ≡ found_run c hashes) → (now.store.tells ≡ true → IsSound now.store.files now.store.folder c) → SawQuery hashes before after reply
   saw_query hashes reply steps usable pending found sound = record {
@@ -64,17 +68,17 @@ module _ (start now new : RecordedState) (is : IsAlone start now false) where
   }
     where
       same : core_at after ≡ c
-      same = core_alone start new false false (alone_queried start now is new hashes reply steps) ∙ steps.moves.leads ∙ sym (query_leads c 0 hashes reply)
+      same = core_both (query_entries 0 hashes reply) steps ∙ steps.moves.leads ∙ sym (query_leads c 0 hashes reply)
 
-  pub saw_register : (leaves next : List (List ℕ × ℕ)) (added : Bool) → MayBeAsked start.store.limits (Step.registers leaves) → IsDue (xorb_limits start.store.limits) leaves next → Steps now new (register_entries 0 c now.store.limits.shard_target leaves next)
+  pub saw_register : (leaves next : List (List ℕ × ℕ)) (added : Bool) → Steps now new (register_entries 0 c now.store.limits.shard_target leaves next)
       → added ≡ is_new now.store.xorbs (xorb_hash leaves) → IsListed new.store.xorbs (xorb_hash leaves) leaves → xorb_hash leaves ≢ sentinel → SawRegister leaves next before after added
-  saw_register leaves next added asked due steps new_hash listed named = record {
+  saw_register leaves next added steps new_hash listed named = record {
     others = [];
     going = refl;
     is = holder_grown start now new (register_entries 0 c now.store.limits.shard_target leaves next) is steps
         ∙ ap (λ (es : List Entry). grown before [] es) (λ i. register_entries 0 (sym found_is i) (limits_now start now is new i).shard_target leaves next);
     new_hash = new_hash ∙ ap (λ (d : Core). is_new d.xorbs (xorb_hash leaves)) (sym found_is);
-    listed = subst (λ (d : Core). IsListed d.xorbs (xorb_hash leaves) leaves) (sym (core_alone start new false false (alone_registered start now is new leaves next asked due steps))) listed;
+    listed = subst (λ (d : Core). IsListed d.xorbs (xorb_hash leaves) leaves) (sym (core_both (register_entries 0 c now.store.limits.shard_target leaves next) steps)) listed;
     named = named;
   }
 

@@ -1,8 +1,9 @@
 -- A store that one caller has alone, after a step.
-use Rattle.std.proofs.Common.{◌≡◌, ◌⊎◌, inl, inr, ℕ, true, false, List, [], ◌++◌, Option, refl, subst, sym, arith}
+use Rattle.std.proofs.Common.{◌≡◌, ◌⊎◌, inl, inr, ℕ, true, false, List, [], ◌++◌, Option, refl, ap, subst, sym, arith}
 use Rattle.std.specs.Prelude.{Any}
 use Rattle.std.specs.List.{AllByRecursion, Contains}
 use Rattle.std.proofs.lemmas.Bool.{false≢true}
+use Rattle.std.proofs.lemmas.List.{append-nil}
 use Rattle.std.proofs.lemmas.List.Elements.{All-contains, All-from_recursion, Contains-append_cases}
 use Rattle.xet_completion.specs.Completing.{Completes}
 use Rattle.xet_cut.specs.declared.limits.LimitSettings.{LimitSettings}
@@ -18,12 +19,14 @@ use Rattle.xet_io.specs.Faults.{Rose}
 use Rattle.xet_shard_format.specs.Records.{IsFile}
 use Rattle.xet_shard_format.specs.declared.record.FileDataSequenceEntry.{FileDataSequenceEntry as Segment}
 use Rattle.xet_shard_format.specs.declared.record.MDBFileInfo.{MDBFileInfo}
+use Rattle.xet_store.specs.Changes.{ChangesFiles, Tries, files_of}
 use Rattle.xet_store.specs.Recorded.{RecordedState, core_of}
 use Rattle.xet_store.specs.Steps.{Steps, fault_entries}
+use Rattle.xet_store.specs.theorems.Changing.{changes_more, changes_nothing, changes_then}
 use Rattle.xet_store.specs.theorems.Joining.{steps_both, steps_nothing}
-use Rattle.xet_store.specs.Alone.{IsAlone, IsFault, MayBeAsked, Step, StepsTo, StepsUntil, cut_of, kind_of}
+use Rattle.xet_store.specs.Alone.{IsAlone, IsFault, MakesStepsUntil, MayBeAsked, Step, StepsTo, attempted, cut_of, kind_of}
 use Rattle.xet_store.specs.Holders.{xorb_limits}
-use Rattle.xet_store.proofs.Entries.{all_complete, all_done, all_fault, all_query, all_register, done_cases, size_of}
+use Rattle.xet_store.proofs.Entries.{all_complete, all_done, all_query, all_register, done_cases, size_of}
 
 -- it is no failure of the disk
 abbrev pub IsNoFault : Entry → Type 0
@@ -50,7 +53,7 @@ pub alone_begins : (s : RecordedState) → IsAlone s s false
 alone_begins s = record {
   since = [];
   steps = steps_nothing s;
-  whole = λ going. StepsTo.begins;
+  whole = λ going. record { steps = StepsTo.begins; changes = changes_nothing [] s s [] refl };
   until = λ bad. absurd (false≢true bad);
   disk = λ any. absurd (no_fault [] tt any);
   rose = λ any. absurd (no_fault [] tt any);
@@ -72,24 +75,24 @@ module _ (start now new : RecordedState) (is : IsAlone start now false) (added :
   rose_more rose any = omega (arith, rose (here_alone any), is.steps.keeps.later)
 
   -- after a completed step
-  pub alone_more : StepsTo start.store.limits 0 (core_of start) (is.since ++ added) → AllByRecursion IsNoFault added → IsAlone start new false
-  alone_more to none = record {
+  pub alone_more : StepsTo start.store.limits 0 (core_of start) (is.since ++ added) → ChangesFiles [] now new added → AllByRecursion IsNoFault added → IsAlone start new false
+  alone_more to changes none = record {
     since = is.since ++ added;
     steps = all_steps;
-    whole = λ going. to;
+    whole = λ going. record { steps = to; changes = changes_then start now new [] [] is.since added is.steps.keeps.tells is.steps.keeps.folder (is.whole refl).changes changes };
     until = λ bad. absurd (false≢true bad);
     disk = λ any. absurd (no_fault added none (here_alone any));
     rose = rose_more (λ any. absurd (no_fault added none any));
   }
 
   -- after a step that failed
-  pub alone_stops : (e : StoreError) → StepsUntil start.store.limits 0 (core_of start) e (is.since ++ added) → (Any IsFault added → e ≡ Io Disk) → (Any IsFault added → Rose now.store.faults new.store.faults) → IsAlone start new true
+  pub alone_stops : (e : StoreError) → MakesStepsUntil e start new (is.since ++ added) → (Any IsFault added → e ≡ Io Disk) → (Any IsFault added → Rose now.store.faults new.store.faults) → IsAlone start new true
   alone_stops e until disk rose = record {
     since = is.since ++ added;
     steps = all_steps;
     whole = λ bad. absurd (false≢true (sym bad));
     until = λ stopped. (e, until);
-    disk = λ any. (refl, subst (λ (x : StoreError). StepsUntil start.store.limits 0 (core_of start) x (is.since ++ added)) (disk (here_alone any)) until);
+    disk = λ any. (refl, subst (λ (x : StoreError). MakesStepsUntil x start new (is.since ++ added)) (disk (here_alone any)) until);
     rose = rose_more rose;
   }
 
@@ -107,37 +110,45 @@ module _ (start now : RecordedState) (is : IsAlone start now false) (new : Recor
   abbrev ToMore : List Entry → Type 0
   ToMore es = StepsTo limits 0 (core_of start) (is.since ++ es)
 
-  pub alone_queried : (hashes : List (List ℕ)) (reply : Option (ℕ × Segment)) → Steps now new (query_entries 0 hashes reply) → IsAlone start new false
-  alone_queried hashes reply steps = alone_more start now new is (query_entries 0 hashes reply) steps (StepsTo.asks is.since hashes reply (is.whole refl)) (all_query IsNoFault 0 (λ hs r bad. bad) hashes reply)
+  pub alone_queried : (hashes : List (List ℕ)) (reply : Option (ℕ × Segment)) → Steps now new (query_entries 0 hashes reply) → ChangesFiles [] now new (query_entries 0 hashes reply) → IsAlone start new false
+  alone_queried hashes reply steps changes =
+      alone_more start now new is (query_entries 0 hashes reply) steps (StepsTo.asks is.since hashes reply (is.whole refl).steps) changes (all_query IsNoFault 0 (λ hs r bad. bad) hashes reply)
 
-  pub alone_registered : (leaves next : List (List ℕ × ℕ)) → MayBeAsked limits (Step.registers leaves) → IsDue (xorb_limits limits) leaves next → Steps now new (register_entries 0 (core_of now) now.store.limits.shard_target leaves next) → IsAlone start new false
-  alone_registered leaves next asked due steps =
+  pub alone_registered : (leaves next : List (List ℕ × ℕ)) → MayBeAsked limits (Step.registers leaves) → IsDue (xorb_limits limits) leaves next → Steps now new (register_entries 0 (core_of now) now.store.limits.shard_target leaves next)
+      → ChangesFiles [] now new (register_entries 0 (core_of now) now.store.limits.shard_target leaves next) → IsAlone start new false
+  alone_registered leaves next asked due steps changes =
       let c : Core = core_of now in let target : ℕ = now.store.limits.shard_target in
       alone_more start now new is (register_entries 0 c target leaves next) steps
-      (subst ToMore (λ i. register_entries 0 (sym core_now i) (sym limits_now i).shard_target leaves next) (StepsTo.registers is.since leaves next (is.whole refl) asked due))
+      (subst ToMore (λ i. register_entries 0 (sym core_now i) (sym limits_now i).shard_target leaves next) (StepsTo.registers is.since leaves next (is.whole refl).steps asked due))
+      changes
       (all_register IsNoFault 0 (λ s bad. bad) c target leaves next (λ b bad. bad))
 
-  pub alone_completed : (file : MDBFileInfo) → IsFile file → Completes now.store.xorbs file → Steps now new (complete_entries 0 (core_of now) now.store.limits.shard_target file) → IsAlone start new false
-  alone_completed file form can steps =
+  pub alone_completed : (file : MDBFileInfo) → IsFile file → Completes now.store.xorbs file → Steps now new (complete_entries 0 (core_of now) now.store.limits.shard_target file)
+      → ChangesFiles [] now new (complete_entries 0 (core_of now) now.store.limits.shard_target file) → IsAlone start new false
+  alone_completed file form can steps changes =
       let c : Core = core_of now in let target : ℕ = now.store.limits.shard_target in
       alone_more start now new is (complete_entries 0 c target file) steps
       (subst ToMore (λ i. complete_entries 0 (sym core_now i) (sym limits_now i).shard_target file)
-      (StepsTo.completes is.since file (is.whole refl) form (subst (λ (d : Core). Completes d.xorbs file) core_now can)))
+      (StepsTo.completes is.since file (is.whole refl).steps form (subst (λ (d : Core). Completes d.xorbs file) core_now can)))
+      changes
       (all_complete IsNoFault 0 (λ s bad. bad) c target file (λ b bad. bad))
 
   -- a step failed
   pub alone_failed : (step : Step) → MayBeAsked limits step → (e : StoreError) (done : List Entry) → (done ≡ []) ⊎ (done ≡ cut_of 0 limits.shard_target step (core_of now)) → Steps now new (done ++ fault_entries 0 (kind_of step) e)
-      → (Any IsFault (fault_entries 0 (kind_of step) e) → Rose now.store.faults new.store.faults) → IsAlone start new true
-  alone_failed step asked e done completed steps rose =
+      → Tries now new (attempted 0 now.store.limits.shard_target step (core_of now)) → (Any IsFault (fault_entries 0 (kind_of step) e) → Rose now.store.faults new.store.faults) → IsAlone start new true
+  alone_failed step asked e done completed steps tries rose =
       alone_stops start now new is (done ++ fault_entries 0 (kind_of step) e) steps e
       (record {
-        before = is.since;
-        steps = is.whole refl;
-        step = step;
-        asked = asked;
-        done = done;
-        completed = subst (λ (c : Core). (done ≡ []) ⊎ (done ≡ cut_of 0 limits.shard_target step c)) core_now completed;
-        is = refl;
+        steps = record {
+          before = is.since;
+          steps = (is.whole refl).steps;
+          step = step;
+          asked = asked;
+          done = done;
+          completed = subst (λ (c : Core). (done ≡ []) ⊎ (done ≡ cut_of 0 limits.shard_target step c)) core_now completed;
+          is = refl;
+        };
+        changes = changes_more start new tried is.since (done ++ failure) both;
       })
       (λ any. disk_failed (kind_of step) e (of_two any)) (λ any. rose (of_two any))
     where
@@ -146,6 +157,20 @@ module _ (start now : RecordedState) (is : IsAlone start now false) (new : Recor
 
       failure : List Entry
       failure = fault_entries 0 (kind_of step) e
+
+      -- the files of the step that failed
+      tried : List (List ℕ)
+      tried = files_of start.store.folder (attempted 0 limits.shard_target step (after_all (core_of start) is.since))
+
+      target : now.store.limits.shard_target ≡ limits.shard_target
+      target = ap (λ (l : LimitSettings). l.shard_target) limits_now
+
+      files : files_of now.store.folder (attempted 0 now.store.limits.shard_target step (core_of now)) ≡ tried
+      files = λ i. files_of (is.steps.keeps.folder i) (attempted 0 (target i) step (core_now i))
+
+      both : ChangesFiles tried start new is.since
+      both = subst (λ (es : List Entry). ChangesFiles tried start new es) (append-nil is.since)
+          (changes_then start now new [] tried is.since [] is.steps.keeps.tells is.steps.keeps.folder (is.whole refl).changes (subst (λ (t : List (List ℕ)). ChangesFiles t now new []) files tries))
 
       of_two : Any IsFault (done ++ failure) → Any IsFault failure
       of_two any = go (any_either done failure any)

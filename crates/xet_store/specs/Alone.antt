@@ -16,6 +16,7 @@ use Rattle.xet_io.specs.Faults.{Rose}
 use Rattle.xet_shard_format.specs.Records.{IsFile}
 use Rattle.xet_shard_format.specs.declared.record.FileDataSequenceEntry.{FileDataSequenceEntry as Segment}
 use Rattle.xet_shard_format.specs.declared.record.MDBFileInfo.{MDBFileInfo}
+use Rattle.xet_store.specs.Changes.{ChangesFiles, files_of}
 use Rattle.xet_store.specs.Recorded.{RecordedState, core_of}
 use Rattle.xet_store.specs.Steps.{Steps, fault_entries}
 use Rattle.xet_xorb.specs.Raw.{raw_leaves}
@@ -68,6 +69,24 @@ pub record StepsUntil (limits : LimitSettings) (pass : ℕ) (c : Core) (error : 
   pub completed : (done ≡ []) ⊎ (done ≡ cut_of pass limits.shard_target step (after_all c before))
   pub is : all ≡ before ++ (done ++ fault_entries pass (kind_of step) error)
 
+-- the entries of a step, if it is completed, but for the chunks that did not fit into a xorb
+abbrev pub attempted : ℕ → ℕ → Step → Core → List Entry
+attempted pass target Step.asks c = []
+attempted pass target (Step.registers leaves) c = register_entries pass c target leaves []
+attempted pass target (Step.completes file) c = complete_entries pass c target file
+
+-- Between two states pass 0 alone made these entries, by completed steps. On the disk nothing has changed but the files that they
+-- name, and no temporary file is left.
+pub record MakesSteps (old new : RecordedState) (entries : List Entry) : Type 0 where
+  pub steps : StepsTo old.store.limits 0 (core_of old) entries
+  pub changes : ChangesFiles [] old new entries
+
+-- And one more step that failed with this error, and was the last. Its files may have changed too, and what is under their temporary
+-- names.
+pub record MakesStepsUntil (error : StoreError) (old new : RecordedState) (entries : List Entry) : Type 0 where
+  pub steps : StepsUntil old.store.limits 0 (core_of old) error entries
+  pub changes : ChangesFiles (files_of old.store.folder (attempted 0 old.store.limits.shard_target steps.step (after_all (core_of old) steps.before))) old new entries
+
 abbrev pub IsFault : Entry → Type 0
 IsFault (Query pass hashes reply) = ⊥
 IsFault (Register pass chunks next added) = ⊥
@@ -90,9 +109,9 @@ alone_state start store stopped = record { start = start; store = store; stopped
 pub record IsAlone (start now : RecordedState) (stopped : Bool) : Type 0 where
   pub since : List Entry
   pub steps : Steps start now since
-  pub whole : stopped ≡ false → StepsTo start.store.limits 0 (core_of start) since
-  pub until : stopped ≡ true → (e : StoreError) × StepsUntil start.store.limits 0 (core_of start) e since
-  pub disk : Any IsFault since → (stopped ≡ true) × StepsUntil start.store.limits 0 (core_of start) (Io Disk) since
+  pub whole : stopped ≡ false → MakesSteps start now since
+  pub until : stopped ≡ true → (e : StoreError) × MakesStepsUntil e start now since
+  pub disk : Any IsFault since → (stopped ≡ true) × MakesStepsUntil (Io Disk) start now since
   pub rose : Any IsFault since → Rose start.store.faults now.store.faults
 
 -- what it has seen: the whole history, of which each entry since it began is its own

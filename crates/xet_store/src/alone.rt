@@ -1,7 +1,7 @@
 //! `Alone`: a store that one caller has alone makes steps as pass 0.
 
-ghost use Rattle.std.specs.Prelude.{◌≡◌, ◌++◌, ◌∷◌, [], ℕ, List, Option, false, length};
-ghost use Rattle.xet_choices.specs.Calls.{Call};
+ghost use Rattle.std.specs.Prelude.{◌≡◌, ◌++◌, ◌∷◌, [], ℕ, List, false, length};
+ghost use Rattle.xet_choices.specs.Calls.{entries_of};
 ghost use Rattle.xet_store.specs.Alone.{IsAlone, alone_of};
 ghost use Rattle.xet_store.specs.Holders.{calls_in, numbered};
 
@@ -139,8 +139,7 @@ impl<D: Disk> Stepping for Alone<D> {
 
 /// The number of the last query of a history; 0 if there is none.
 fn last_query_of(history: &[Entry]) -> u64
-    ensures { (before : List Call) (entry : ℕ) (older newer : List Entry) (hashes : List (List ℕ)) (reply : Option ℕ) → history.now ≡ older ++ newer
-        → calls_in (numbered (length older) newer) ≡ before ++ Call.Asked entry hashes reply ∷ [] → result ≡ entry }
+    ensures { (older newer : List Entry) (before : List ℕ) (entry : ℕ) → history.now ≡ older ++ newer → entries_of (calls_in (numbered (length older) newer)) ≡ before ++ entry ∷ [] → result ≡ entry }
 {
     let mut at = history.len();
     while at > 0 {

@@ -1,7 +1,7 @@
 //! `Stepping`: who makes the steps of a store.
 
-ghost use Rattle.std.specs.Prelude.{◌≡◌, ◌⊎◌, ◌++◌, ◌∷◌, [], ℕ, List, Option, IfErr, IfOk};
-ghost use Rattle.xet_choices.specs.Calls.{Call};
+ghost use Rattle.std.specs.Prelude.{◌≡◌, ◌⊎◌, ◌++◌, ◌∷◌, [], ℕ, List, IfErr, IfOk};
+ghost use Rattle.xet_choices.specs.Calls.{entries_of};
 ghost use Rattle.xet_store.specs.Holders.{Holder, IsHolder, calls_of, xorb_limits};
 ghost use Rattle.xet_store.specs.Stepping.{SawComplete, SawError, SawOther, SawQuery, SawRegister, cut_to_complete, no_cut, cut_to_register};
 ghost use Rattle.xet_dedup_queries.specs.Registering.{IsDue, IsNewXorb};
@@ -28,9 +28,9 @@ pub trait Stepping {
     fn limits(&self) -> &Limits
         ensures { result.now ≡ (holder self.now).limits };
 
-    /// The number of the history entry of its latest query.
+    /// The number of the history entry of its latest query, whatever came after it. If there was none it is any number.
     fn last_query(&self) -> u64
-        ensures { (before : List Call) (entry : ℕ) (hashes : List (List ℕ)) (reply : Option ℕ) → calls_of (holder self.now) ≡ before ++ Call.Asked entry hashes reply ∷ [] → result ≡ entry };
+        ensures { (before : List ℕ) (entry : ℕ) → entries_of (calls_of (holder self.now)) ≡ before ++ entry ∷ [] → result ≡ entry };
 
     /// How many of the first hashes of a query are those of consecutive chunks of a listed xorb, and the segment of these
     /// chunks. None, without an entry, if the query is empty.

@@ -1,5 +1,5 @@
 -- A xorb more.
-use Rattle.std.proofs.Common.{◌≡◌, ◌≢◌, ◌⊎◌, inl, inr, Result, Ok, Err, OnErr, OnOk, ◌∙◌, ℕ, ◌≤◌, Bool, true, false, not, List, [], ◌∷◌, ◌++◌, map, Option, Some, None, IsSome, is_some, if◌then◌else◌, refl, sym, ap, subst}
+use Rattle.std.proofs.Common.{◌≡◌, ◌≢◌, ◌⊎◌, inl, inr, Result, Ok, Err, OnErr, OnOk, ◌∙◌, ℕ, ◌≤◌, Bool, true, List, [], ◌∷◌, ◌++◌, Some, None, IsSome, refl, sym, ap, subst}
 use Rattle.std.specs.List.{AllByRecursion}
 use Rattle.xet_io.specs.Entries.{Entries}
 use Rattle.xet_io.specs.Images.{Passes}
@@ -7,14 +7,10 @@ use Rattle.xet_io.specs.theorems.Passing.{passes_more}
 use Rattle.xet_folder.specs.Puts.{IsPuttingXorb}
 use Rattle.std.proofs.lemmas.Result.{on_ok_weaker}
 use Rattle.std.proofs.lemmas.List.{append-nil}
-use Rattle.std.proofs.lemmas.List.Elements.{All-from_recursion}
 use Rattle.xet_io.specs.Disk.{Files, bytes_at, entry_at as get}
-use Rattle.xet_hash.specs.Merkle.{chunk_hash, leaves_of, xorb_hash}
-use Rattle.xet_xorb_chunk.specs.declared.chunk.Chunk.{Chunk}
-use Rattle.xet_xorb_chunk.specs.Chunks.{bytes_of_chunk, chunk_leaf}
-use Rattle.xet_xorb_chunk.specs.theorems.Grammar.{leaves_are}
+use Rattle.xet_hash.specs.Merkle.{xorb_hash}
 use Rattle.xet_shard_format.specs.declared.record.MDBFileInfo.{MDBFileInfo}
-use Rattle.xet_shard.specs.Held.{Held, IsHeld, held as the_held, with_last}
+use Rattle.xet_shard.specs.Held.{Held, IsHeld, with_last}
 use Rattle.xet_shard_format.specs.Records.{xorb_record_hash}
 use Rattle.xet_shard.specs.theorems.Holding.{all_last}
 use Rattle.xet_folder.specs.Admission.{block_leaves}
@@ -27,7 +23,6 @@ use Rattle.xet_folder.specs.theorems.Tables.{found_either, found_here, found_kep
 use Rattle.xet_store_disk.specs.Cleaning.{HasXorb, IsDurable, Keeps, KeepsAt, SameEntry, files_at}
 use Rattle.xet_store_disk.specs.DueXorb.{IsDueXorb, due_xorb}
 use Rattle.xet_dedup.specs.Records.{xorb_record}
-use Rattle.xet_store_disk.specs.Tables.{Tables, tables, tables_of, with_leaves, with_xorb as with_xorb_of}
 use Rattle.xet_folder.specs.Contents.{IsRecord}
 use Rattle.xet_store_disk.specs.Store.{State, IsPendingFile, Sound}
 use Rattle.xet_base.specs.theorems.Elements.{all_more}
@@ -124,30 +119,6 @@ module _ (s : State) (h : List ℕ) (leaves : Leaves) (tells : Bool) (files : Fi
 pub listed_at : (old new : Xorbs) (h : List ℕ) (ms : Leaves) → new ≡ old ++ (h, ms) ∷ [] → found old h ≡ None → IsListed new h ms
 listed_at old new h ms more none = ap (λ (l : Xorbs). found l h) more ∙ found_here old h ms none
 
--- ---- the tables
-
-module _ (s : State) (h : List ℕ) (ms : Leaves) where
-  abbrev added_or : Option Leaves → Tables
-  added_or o =
-      if is_some o then tables_of s
-      else tables (s.xorbs ++ (h, ms) ∷ []) s.records (the_held (with_last xorb_record_hash s.pending.blocks (xorb_record h ms)) s.pending.files)
-
-  -- where the xorb is listed
-  pub tables_listed : (v : Leaves) → found s.xorbs h ≡ Some v → tables_of s ≡ with_leaves (tables_of s) h ms
-  tables_listed v is = sym (ap added_or is)
-
-  -- where it is added
-  pub tables_added : found s.xorbs h ≡ None → (xorbs : Xorbs) (pending : Held) → xorbs ≡ s.xorbs ++ (h, ms) ∷ []
-      → pending ≡ the_held (with_last xorb_record_hash s.pending.blocks (xorb_record h ms)) s.pending.files → tables xorbs s.records pending ≡ with_leaves (tables_of s) h ms
-  tables_added none xorbs pending listed is = (λ i. tables (listed i) s.records (is i)) ∙ sym (ap added_or none)
-
--- by its chunks
-pub tables_by_chunks : (t : Tables) (h : List ℕ) (ms : Leaves) (chunks : List Chunk) → AllByRecursion (λ c. c.hash ≡ chunk_hash c.bytes) chunks
-    → h ≡ xorb_hash (map chunk_leaf chunks) → ms ≡ map chunk_leaf chunks → with_leaves t h ms ≡ with_xorb_of t (map bytes_of_chunk chunks)
-tables_by_chunks t h ms chunks digests hash leaves =
-    let same : map chunk_leaf chunks ≡ leaves_of (map bytes_of_chunk chunks) = leaves_are chunks (All-from_recursion _ chunks digests) in
-    λ i. with_leaves t ((hash ∙ ap xorb_hash same) i) ((leaves ∙ same) i)
-
 -- ---- a put of a xorb, in a folder by another name
 
 -- What it shows of the disk, done or not.
@@ -238,7 +209,3 @@ pub put_left : {T E : Type 0} (old new : Files) (name encoding : List ℕ) (r : 
     → OnOk r (IsDurable new name) → OnOk r (get new (temp_name name) ≡ None) → IsKeptOrDone old new name encoding
 put_left old new name encoding (Ok x) refused there durable temp = inr (record { there = there; durable = durable; temp = temp })
 put_left old new name encoding (Err e) refused there durable temp = refused
-
-pub true_from : (b : Bool) → false ≡ not b → b ≡ true
-true_from true e = refl
-true_from false e = absurd (cc e)

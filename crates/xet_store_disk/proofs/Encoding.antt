@@ -4,7 +4,6 @@ use Rattle.std.specs.List.{AllByRecursion}
 use Rattle.std.proofs.lemmas.List.{length-map}
 use Rattle.std.proofs.lemmas.List.Elements.{All-from_recursion}
 use Rattle.std.proofs.lemmas.List.Sums.{sum_by-cons}
-use Rattle.xet_base.specs.theorems.Elements.{all_more}
 use Rattle.xet_hash.specs.Merkle.{chunk_hash, leaves_of, total_len, xorb_hash}
 use Rattle.xet_xorb_chunk.specs.declared.chunk.Chunk.{Chunk}
 use Rattle.xet_xorb_chunk.specs.Chunks.{bytes_of_chunk, chunk_leaf, total}
@@ -56,10 +55,6 @@ parts_fit chunks small count bytes = record {
     small_parts : (cs : List Chunk) → AllByRecursion (λ c. length c.bytes ≤ max_chunk_len) cs → AllByRecursion (λ p. length p < 2 ^ 24) (map bytes_of_chunk cs)
     small_parts [] all = tt
     small_parts (c ∷ cs) all = (let here = all.0 in omega arith, small_parts cs all.1)
-
--- chunks of fewer than 2 ^ 23 bytes are no longer than a chunk may be
-pub readable : (chunks : List Chunk) → AllByRecursion (λ c. length c.bytes < 2 ^ 23) chunks → AllByRecursion (λ c. length c.bytes ≤ max_chunk_len) chunks
-readable chunks small = all_more (λ c. length c.bytes < 2 ^ 23) (λ c. length c.bytes ≤ max_chunk_len) chunks (λ c h. omega arith) small
 
 some_chunks : (chunks : List Chunk) → chunks ≢ [] → 0 < length chunks
 some_chunks [] some = absurd (some refl)
@@ -114,20 +109,6 @@ module _ (raw : RawXorbData) (new : IsNewXorb (2 ^ 30, 65536) raw) (h : List ℕ
       let count = ap length leaves in let bytes = new.bytes in let few = new.count in let many = length-map new.chunks chunk_leaf in let length_is = ap length ms_are in
       let total : total_len ms ≡ total_len (raw_leaves raw) = ap total_len leaves in
       omega (arith, stored_is ms)
-
--- the xorb of chunks that a xorb may have is new
-pub new_of_chunks : (raw : RawXorbData) (chunks : List Chunk) (boundaries : List ℕ) → raw ≡ raw_of chunks boundaries → 0 < length chunks → AllByRecursion (λ c. c.hash ≡ chunk_hash c.bytes) chunks
-    → AllByRecursion (λ c. length c.bytes < 2 ^ 23) chunks → length chunks ≤ 65536 → total chunks ≤ 2 ^ 30 → IsNewXorb (2 ^ 30, 65536) raw
-new_of_chunks raw chunks boundaries made some hashed small count bytes = record {
-  chunks = chunks;
-  boundaries = boundaries;
-  made = made;
-  some = λ e. let none : length chunks ≡ 0 = ap length e in absurd (omega arith);
-  hashed = hashed;
-  small = readable chunks small;
-  bytes = let same = ap total_len (raw_leaves_are raw chunks boundaries made) in let all = total_of chunks in omega arith;
-  count = count;
-}
 
 -- the same xorb by other names
 pub due_at : (d : DueXorbValue) (h encoding : List ℕ) → h ≡ d.hash → encoding ≡ d.encoding → IsDueXorb d → IsDueXorb (due_xorb h d.leaves encoding)

@@ -1,5 +1,5 @@
 -- Cleaning: what it returns, what it adds to a session, and what it keeps.
-use Rattle.std.specs.Prelude.{◌≡◌, ◌⊎◌, ℕ, zero, suc, ◌<◌, ◌≤◌, Bool, true, List, [], ◌∷◌, ◌++◌, drop, length, map, take, Some, None, IsSome}
+use Rattle.std.specs.Prelude.{◌≡◌, ◌⊎◌, ℕ, zero, suc, ◌<◌, ◌≤◌, Bool, true, List, [], ◌∷◌, ◌++◌, drop, length, map, Some, None, IsSome}
 use Rattle.xet_io.specs.Disk.{entry_at as get}
 use Rattle.std.specs.List.{AllByRecursion}
 use Rattle.std.specs.Option.{option_map}
@@ -9,10 +9,10 @@ use Rattle.xet_io.specs.Entries.{Entries}
 use Rattle.xet_io.specs.Images.{Passes}
 use Rattle.xet_io.specs.Faults.{Rose}
 use Rattle.xet_hash.specs.declared.error.StoreError.{StoreError}
-use Rattle.xet_hash.specs.declared.error.StoreError.TheVariants.{Io, TooLarge, OutOfMemory}
-use Rattle.xet_hash.specs.declared.error.Place.TheVariants.{Source, Disk}
+use Rattle.xet_hash.specs.declared.error.StoreError.TheVariants.{Io, TooLarge}
+use Rattle.xet_hash.specs.declared.error.Place.TheVariants.{Source}
 use Rattle.xet_hash.specs.declared.error.What.TheVariants as what
-use Rattle.xet_hash.specs.Merkle.{chunk_hash, xorb_hash, file_hash, leaves_of}
+use Rattle.xet_hash.specs.Merkle.{file_hash, leaves_of}
 use Rattle.xet_cut.specs.declared.limits.LimitSettings.{LimitSettings}
 use Rattle.xet_shard_format.specs.declared.record.FileDataSequenceEntry.{FileDataSequenceEntry as Segment}
 use Rattle.xet_store_disk.specs.declared.info.XetFileInfo.{XetFileInfo}
@@ -21,14 +21,10 @@ use Rattle.xet_folder.specs.Admission.{ShardHolds}
 use Rattle.xet_folder.specs.Checks.{OfBytes}
 use Rattle.xet_folder.specs.Names.{IsForeign, xorb_path}
 use Rattle.xet_shard_file.specs.Names.{IsHash, shard_path}
-use Rattle.xet_dedup.specs.Packing.{packs}
 use Rattle.xet_folder.specs.Plan.{Resolves}
 use Rattle.xet_folder.specs.Stored.{IsStored}
 use Rattle.xet_folder.specs.Xorbs.{IsListed, FileRecords, found}
-use Rattle.xet_store_disk.specs.Steps.{ListsXorbs}
 use Rattle.xet_store_disk.specs.Store.{Differ, State, plan_of}
-use Rattle.xet_store_disk.specs.Separate.{Apart, MetChunk, Separate}
-use Rattle.xet_store_disk.specs.Tables.{first_packs, tables_of, with_files, with_xorbs}
 
 -- the pointer record of a file: hash, length and SHA-256 (FIPS 180-4)
 abbrev pub info_of : LimitSettings → List ℕ → XetFileInfo
@@ -64,13 +60,6 @@ chunkings left s sources = map (λ source. chunking s (left source)) sources
 abbrev pub HasFile : State → List (List ℕ) → Type 0
 HasFile s chunks =
     (plan : List Segment) × (plan_of s.records (file_hash (leaves_of chunks)) ≡ Some plan) × Resolves (IsStored s.files s.folder) length plan chunks
-
--- Each xorb into which the file's chunks are packed is stored under its hash, with exactly its chunks.
-abbrev pub IsPacked : Files → List ℕ → LimitSettings → List (List ℕ) → Type 0
-IsPacked files folder s chunks = AllByRecursion (λ pack. IsStored files folder (xorb_hash (leaves_of pack)) pack) (packs s chunks)
-
-abbrev pub HasXorbs : State → List (List ℕ) → Type 0
-HasXorbs s chunks = IsPacked s.files s.folder s.limits chunks
 
 -- The file under a name is as it was: its bytes, its modification time and its durability.
 abbrev pub SameEntry : Files → Files → List ℕ → Type 0
@@ -147,42 +136,11 @@ Adds old new hashes =
     (added : FileRecords) × (new ≡ old ++ added) × Differ added
     × AllByRecursion (λ r. (found old r.0 ≡ None) × IsSome (found (map (λ h. (h, r.1)) hashes) r.0)) added
 
--- Each source has a file: of an observable source, the bytes that it had left. The results are those of these
--- files, and the tables have these files added.
-abbrev pub StoresAll : {S : Type 0} → (S → Bool) → (S → List ℕ) → List S → State → State → List XetFileInfo → Type 0
-StoresAll tells left sources old new infos =
-    (files : List (List ℕ)) × EachTold tells left (λ bytes file. file ≡ bytes) sources files × (infos ≡ map (info_of old.limits) files)
-    × (tables_of new ≡ with_files old.limits (tables_of old) files)
-
 -- an error that names a source names this one
 abbrev pub FailedAt : StoreError → ℕ → Type 0
 FailedAt (Io (Source i)) done = i ≡ done
 FailedAt (TooLarge (what.Source i)) done = i ≡ done
 FailedAt _ done = Unit {0}
-
--- After an error: the files of the sources before some source, `done`, were added in turn, and each has a plan; the
--- sources after it are untouched. Of the file of source `done` some first xorbs were added, but no record is added for
--- it. An error that names a source names that one. Each source before it that is observable was read to its end, had no
--- more bytes than the limits allow, and its xorbs are listed. If the disk and all sources before it are observable: each
--- plan resolves to its file's chunks, if there are no collisions among the data seen; and each xorb is stored, if there
--- are none among the chunks seen.
-pub record StoresSome {S : Type 0} (tells : S → Bool) (left : S → List ℕ) (sources now : List S) (old new : State) (e : StoreError) : Type 0 where
-  pub done : ℕ
-  pub before : done < length sources
-  pub failed : FailedAt e done
-  pub read : AllByRecursion (λ s. tells s ≡ true → left s ≡ []) (take done now)
-  pub short : AllByRecursion (λ s. tells s ≡ true → length (left s) ≤ old.limits.max_source_bytes) (take done sources)
-  pub rest : drop (suc done) now ≡ drop (suc done) sources
-  pub files : List (List ℕ)
-  pub told : EachTold tells left (λ bytes file. file ≡ bytes) sources files
-  pub xorbs : ℕ
-  pub tables : tables_of new ≡ with_xorbs (with_files old.limits (tables_of old) (take done files)) (take xorbs (first_packs old.limits (drop done files)))
-  pub recorded : AllByRecursion (λ file. IsSome (plan_of new.records (file_hash (leaves_of (chunking old.limits file))))) (take done files)
-  pub listed : AllByRecursion (λ s. tells s ≡ true → ListsXorbs new (chunking old.limits (left s))) (take done sources)
-  pub resolve : old.tells ≡ true → AllByRecursion (λ s. tells s ≡ true) (take done sources) → Separate new (chunkings left old.limits (take done sources))
-      → AllByRecursion (HasFile new) (chunkings left old.limits (take done sources))
-  pub has_xorbs : old.tells ≡ true → AllByRecursion (λ s. tells s ≡ true) (take done sources) → Apart chunk_hash (MetChunk new (chunkings left old.limits (take done sources)))
-      → AllByRecursion (HasXorbs new) (chunkings left old.limits (take done sources))
 
 -- the count of failures of source i rose
 abbrev pub RoseAt : {S : Type 0} → (S → ℕ) → List S → List S → ℕ → Type 0
@@ -196,11 +154,3 @@ abbrev pub IsLongAt : {S : Type 0} → (S → Bool) → (S → List ℕ) → Lis
 IsLongAt tells left [] max_len i = ⊥
 IsLongAt tells left (s ∷ ss) max_len zero = tells s ≡ true → max_len < length (left s)
 IsLongAt tells left (s ∷ ss) max_len (suc i) = IsLongAt tells left ss max_len i
-
--- the errors of cleaning, and when each is returned
-abbrev pub HasReason : {S : Type 0} → (S → Bool) → (S → List ℕ) → (S → ℕ) → List S → List S → State → State → StoreError → Type 0
-HasReason tells left faults old new before after (Io (Source i)) = RoseAt faults old new i
-HasReason tells left faults old new before after (Io Disk) = Rose before.faults after.faults
-HasReason tells left faults old new before after (TooLarge (what.Source i)) = IsLongAt tells left old before.limits.max_source_bytes i
-HasReason tells left faults old new before after OutOfMemory = Unit {0}
-HasReason tells left faults old new before after _ = ⊥

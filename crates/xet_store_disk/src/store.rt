@@ -67,11 +67,6 @@ impl<D: Disk> Store<D> {
         let _ = &self.xorbs;
     }
 
-    /// The allocator that was passed to `open`.
-    pub(crate) fn alloc(&self) -> Global {
-        self.alloc
-    }
-
     /// The limits that were passed to `open`.
     pub fn limits(&self) -> &Limits
         ensures { result.now ≡ self.now.limits }

@@ -162,11 +162,20 @@ fn shows_two(
     Ok((packed, kept, session.xorb_count(), session.files()?.len()))
 }
 
-/// Cleans `abc` and then 200 zeros: what the session shows then.
+/// 200 bytes whose chunks of 64, 64, 64 and 8 bytes differ.
+fn four_chunks() -> [u8; 200] {
+    let mut bytes = [0u8; 200];
+    bytes[64] = 1;
+    bytes[128] = 2;
+    bytes[192] = 3;
+    bytes
+}
+
+/// Cleans `abc` and then four chunks: what the session shows then.
 fn cleans_two(alloc: Global) -> Result<(bool, bool, u64, usize), StoreError> {
     let (session, first) = made(alloc, b"abc")?;
     let before = planned(&session, &first);
-    let (session, second) = session.clean(&[0; 200]);
+    let (session, second) = session.clean(&four_chunks());
     let answer = shows_two(&session, &first, before, &second);
     session.closed(answer)
 }

@@ -1,11 +1,13 @@
 //! A store behind calls that have no contract.
 
 use std::alloc::Global;
+use xet_clean::{Cleaned, Sha256Policy, clean_bytes, clean_files};
 use xet_cut::{LimitSettings, Limits};
 use xet_hash::{MerkleHash, Place, Refused, StoreError};
-use xet_io::{Disk, FailingSource, MemoryDisk, SliceSource};
+use xet_io::{Disk, FailingSource, MemoryDisk};
 use xet_shard_format::FileDataSequenceEntry;
-use xet_store_disk::{Cleaned, Store, XetFileInfo, clean_files};
+use xet_store::Store;
+use xet_store_disk::XetFileInfo;
 
 /// The time at which stores are opened.
 pub const NOW: u64 = 1_000;
@@ -24,13 +26,14 @@ pub struct Unopened {
     pub name: String,
 }
 
-/// Chunks from 64 to 1,024 bytes that end as soon as they may, and two chunks a xorb.
+/// Chunks from 64 to 1,024 bytes that end as soon as they may, two chunks a xorb, and blocks of 1 KiB.
 pub fn limits() -> Result<Limits, StoreError> {
     Limits::new(LimitSettings {
         target_chunk: 512,
         minimum_chunk: 64,
         maximum_chunk: 1024,
         cut_chunks: 2,
+        block_bytes: 1024,
         max_source_bytes: 1 << 30,
         ..LimitSettings::shown([0; 256])
     })
@@ -53,8 +56,8 @@ impl Session {
     /// Cleans a file of these bytes. Returns the session, whatever the result.
     pub fn clean(self, bytes: &[u8]) -> (Session, Result<XetFileInfo, StoreError>) {
         let alloc = self.alloc;
-        let (store, answer) = clean_one(alloc, self.store, bytes);
-        (Session { alloc, store }, first_of(answer))
+        let (store, answer) = clean_bytes(alloc, self.store, bytes, Sha256Policy::Compute);
+        (Session { alloc, store }, answer.map(|cleaned| cleaned.0))
     }
 
     /// Cleans sources that may fail. Returns the session, whatever the result.
@@ -111,24 +114,6 @@ impl Session {
     pub fn closed<T>(self, answer: T) -> T {
         release(self.store.into_disk());
         answer
-    }
-}
-
-/// Cleans one file of these bytes in a store.
-fn clean_one(
-    alloc: Global,
-    store: Store<MemoryDisk>,
-    bytes: &[u8],
-) -> (Store<MemoryDisk>, Result<Cleaned, StoreError>) {
-    let mut sources = [SliceSource::new(bytes)];
-    clean_files(alloc, store, &mut sources, 1)
-}
-
-/// The pointer record of the first file that was cleaned.
-fn first_of(answer: Result<Cleaned, StoreError>) -> Result<XetFileInfo, StoreError> {
-    match answer?.infos.first() {
-        Some(info) => Ok(*info),
-        None => Err(StoreError::FileNotFound),
     }
 }
 

@@ -3,9 +3,9 @@
 use crate::session::Session;
 use std::alloc::Global;
 use std::test::Fail;
+use xet_clean::Cleaned;
 use xet_hash::{MerkleHash, Place, StoreError};
 use xet_io::FailingSource;
-use xet_store_disk::Cleaned;
 
 /// The hash of the file `abc`, in hexadecimal.
 const ABC: &str = "8679a9c73b087ee02033e84569cba8c79c2413d79f99a1e9bd1ae79ae88776cf";
@@ -19,24 +19,36 @@ type Row = (
     &'static [u8],
 );
 
-/// A source of three bytes never fails after 9.
-const ROWS: [Row; 4] = [
-    ([b"abc", b"", b"abc"], [9, 9, 9], None, b"a0a|a"),
+/// A source that does not fail.
+const NEVER: u64 = u64::MAX;
+
+/// A file of two chunks, which fill a xorb: 64 zeros and 36.
+const TWO_CHUNKS: [u8; 100] = [0; 100];
+
+/// The chunk of `abc` waits for its xorb until one comes that does not fit: `abc` is recorded then, or at the end.
+const ROWS: [Row; 5] = [
+    ([b"abc", b"", b"abc"], [NEVER, NEVER, NEVER], None, b"a0a|a"),
     (
         [b"abc", b"", b"abc"],
-        [9, 0, 9],
+        [NEVER, 0, NEVER],
         Some(StoreError::Io(Place::Source(1))),
-        b"|a",
+        b"|",
     ),
     (
-        [b"", b"abc", b"abc"],
-        [9, 9, 1],
+        [b"abc", &TWO_CHUNKS, b"abc"],
+        [NEVER, NEVER, 1],
         Some(StoreError::Io(Place::Source(2))),
         b"|a",
     ),
     (
+        [b"abc", &TWO_CHUNKS, b"abc"],
+        [NEVER, 1, NEVER],
+        Some(StoreError::Io(Place::Source(1))),
+        b"|",
+    ),
+    (
         [b"abc", b"", b""],
-        [2, 9, 9],
+        [2, NEVER, NEVER],
         Some(StoreError::Io(Place::Source(0))),
         b"|",
     ),

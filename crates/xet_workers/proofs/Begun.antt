@@ -64,6 +64,7 @@ module _ {S : Type 0} (tells : S → Bool) (left : S → List ℕ) where
     recorded = omega arith;
     records = refl;
     registers = closes_none [] tt;
+    own = λ every. tt;
   }
 
 -- memory was out before that

@@ -1,30 +1,34 @@
 -- What workers took of the sources before an error, and how many entries there are for that.
-use Rattle.std.proofs.Common.{◌≡◌, ◌∙◌, inl, inr, ℕ, zero, suc, ◌+◌, ◌*◌, ◌≤◌, Bool, false, List, [], ◌∷◌, ◌++◌, Some, Result, Ok, Err, length, map, take, refl, sym, ap, subst, length-append, arith}
+use Rattle.std.proofs.Common.{◌≡◌, ◌∙◌, inl, inr, ℕ, zero, suc, ◌+◌, ◌*◌, ◌≤◌, Bool, true, false, List, [], ◌∷◌, ◌++◌, Some, Result, Ok, Err, length, map, take, refl, sym, ap, subst, length-append, arith}
 use Rattle.std.specs.List.{AllByRecursion, flat_map, sum_by}
 use Rattle.std.proofs.lemmas.List.{drop_all, length-map, take_all}
 use Rattle.std.proofs.lemmas.List.Sums.{sum_by-append, sum_by-cons}
-use Rattle.xet_base.specs.theorems.Elements.{all_more, all_prefix}
+use Rattle.xet_base.specs.theorems.Elements.{all_back, all_more, all_prefix}
 use Rattle.xet_clean.specs.theorems.Adding.{among_left, among_right}
 use Rattle.xet_clean.specs.theorems.Hashes.{all_leaves, chunks_sum}
 use Rattle.xet_clean.specs.theorems.InOrder.{are_records}
 use Rattle.xet_clean.specs.theorems.Nexts.{closes_nexts, lands_nexts}
+use Rattle.xet_clean.specs.theorems.Owning.{left_after, left_first, planned_left}
 use Rattle.xet_clean.specs.theorems.Recorded.{IsRecordAmong, each_record}
-use Rattle.xet_clean.specs.theorems.Turns.{done_counts, done_read}
+use Rattle.xet_clean.specs.theorems.Turns.{done_counts, done_read, done_told}
 use Rattle.xet_clean.specs.Cleaning.{AreRecords, EachTaken}
 use Rattle.xet_clean.specs.Closing.{recorded_in}
+use Rattle.xet_clean.specs.Files.{leaves_in}
 use Rattle.xet_clean.specs.Sources.{AreDone, AreRead}
 use Rattle.xet_clean.specs.Working.{Planned}
 use Rattle.xet_clean.specs.declared.policy.Sha256Policy.TheVariants.{Compute}
 use Rattle.xet_clean.specs.declared.working.Working.{Working}
 use Rattle.xet_cut.specs.Chunking.{chunking}
 use Rattle.xet_cut.specs.declared.limits.LimitSettings.{LimitSettings}
-use Rattle.xet_dedup_queries.specs.Counting.{HasNext}
+use Rattle.xet_dedup_queries.specs.Counting.{HasNext, registered_leaves}
+use Rattle.xet_hash.specs.Merkle.{leaves_of}
 use Rattle.xet_hash.specs.declared.error.StoreError.{StoreError}
 use Rattle.xet_history.specs.declared.entry.Entry.{Entry}
 use Rattle.xet_locked_session.specs.Passing.{passing_of}
 use Rattle.xet_shard_format.specs.declared.record.MDBFileInfo.{MDBFileInfo}
 use Rattle.xet_store.specs.Holders.{Holder, calls_in}
 use Rattle.xet_store.specs.Recorded.{RecordedState}
+use Rattle.xet_store_disk.specs.Cleaning.{chunkings}
 use Rattle.xet_store_disk.specs.Separate.{Among}
 use Rattle.xet_store_disk.specs.theorems.Rows.{from_among, to_among}
 use Rattle.xet_workers.specs.Cleaning.{IsReadInTurn, Turn, taken_files, whole_files}
@@ -112,7 +116,8 @@ entries_for passes seats = sum_by (λ p. length p.own) passes + sum_by (λ s. le
 -- ---- the part of one worker
 
 -- The sources were read in turn; so many entries, with those for what is left over, are at most those for what was taken; they
--- record no other files than those read to their ends; and each registration had further chunks.
+-- record no other files than those read to their ends; and each registration had further chunks. If the sources are observable, the
+-- xorbs have only chunks of what they had left.
 pub record IsFewOf {S : Type 0} (tells : S → Bool) (left : S → List ℕ) (limits : LimitSettings) (own : List (ℕ × Entry)) (over : ℕ) (sources now : List S) : Type 0 where
   pub files : List (List ℕ)
   pub done : ℕ
@@ -121,6 +126,7 @@ pub record IsFewOf {S : Type 0} (tells : S → Bool) (left : S → List ℕ) (li
   pub few : length own + over ≤ most_for limits files
   pub only : AllByRecursion (IsRecordAmong Compute limits (take done files)) (recorded_in own)
   pub nexts : AllByRecursion HasNext (calls_in own)
+  pub of_sources : AllByRecursion (λ s. tells s ≡ true) sources → AllByRecursion (Among (flat_map leaves_of (chunkings left limits sources))) (registered_leaves (calls_in own))
 
 among_more : {X : Type 0} (c d : ℕ) → c ≤ d → (xs : List X) (x : X) → Among (take c xs) x → Among (take d xs) x
 among_more zero d le xs x a = absurd a
@@ -163,6 +169,14 @@ module _ {S : Type 0} (tells : S → Bool) (left : S → List ℕ) (faults : S �
             (subst (λ (fs : List (List ℕ)). AllByRecursion (IsRecordAmong Compute old.store.limits fs) recorded) (sym whole)
             (subst (λ (s : LimitSettings). AllByRecursion (IsRecordAmong Compute s bytes) recorded) limits among));
         nexts = subst (λ (l : List (ℕ × Entry)). AllByRecursion HasNext (calls_in l)) own (lands_nexts (map chunk_leaf w.left.chunks) (calls_in is.cleaned.working.follows.own) is.cleaned.working.lands);
+        of_sources = λ every.
+            let leaves : AllByRecursion (λ f. f.plan.leaves ≡ leaves_in old.store.limits f.bytes) files =
+            subst (λ (s : LimitSettings). AllByRecursion (λ (f : Planned). f.plan.leaves ≡ leaves_in s f.bytes) files) limits (all_leaves start end is.cleaned.working.follows files is.cleaned.working.planned) in
+            let same : flat_map (λ f. f.plan.leaves) files ≡ flat_map leaves_of (chunkings left old.store.limits ss) =
+            planned_left tells left old.store.limits ss files (done_told tells left faults old.store.limits.max_source_bytes ss ts files done) every leaves in
+            subst (λ (l : List (ℕ × Entry)). AllByRecursion (Among (flat_map leaves_of (chunkings left old.store.limits ss))) (registered_leaves (calls_in l))) own
+            (subst (λ (ls : List (List ℕ × ℕ)). AllByRecursion (Among ls) (registered_leaves (calls_in is.cleaned.working.follows.own))) same
+            (all_prefix (Among (flat_map (λ (f : Planned). f.plan.leaves) files)) (registered_leaves (calls_in is.cleaned.working.follows.own)) (map chunk_leaf w.left.chunks) is.cleaned.working.own));
       }
 
   -- it stopped
@@ -190,6 +204,9 @@ module _ {S : Type 0} (tells : S → Bool) (left : S → List ℕ) (faults : S �
         only = subst (λ (l : List (ℕ × Entry)). AllByRecursion (IsRecordAmong Compute old.store.limits (take is.short.done is.short.files)) (recorded_in l)) own
             (subst (λ (s : LimitSettings). AllByRecursion (IsRecordAmong Compute s (take is.short.done is.short.files)) recorded) limits among);
         nexts = subst (λ (l : List (ℕ × Entry)). AllByRecursion HasNext (calls_in l)) own (closes_nexts (calls_in is.short.few.0.own) is.short.registers);
+        of_sources = λ every.
+            subst (λ (l : List (ℕ × Entry)). AllByRecursion (Among (flat_map leaves_of (chunkings left old.store.limits ss))) (registered_leaves (calls_in l))) own
+            (subst (λ (s : LimitSettings). AllByRecursion (Among (flat_map leaves_of (chunkings left s ss))) (registered_leaves (calls_in is.short.few.0.own))) limits (is.short.own every));
       }
 
   pub ended_few : (number first : ℕ) (ss ts : List S) (pass : Holder) (made : Result Working StoreError) → EndsAs tells left faults old number first ss ts pass made
@@ -200,7 +217,8 @@ module _ {S : Type 0} (tells : S → Bool) (left : S → List ℕ) (faults : S �
 -- ---- the parts of all workers
 
 -- The sources are in so many parts, each was read in turn, and so many entries are at most those for what was taken. The passes
--- record no other files than those read to their ends, and each registration had further chunks.
+-- record no other files than those read to their ends, and each registration had further chunks. If the sources are observable, the
+-- xorbs have only chunks of what they had left.
 pub record AreBounded {S : Type 0} (tells : S → Bool) (left : S → List ℕ) (limits : LimitSettings) (count entries : ℕ) (passes : List Holder) (sources now : List S) : Type 0 where
   pub parts : List (Turn S)
   pub counted : length parts ≡ count
@@ -212,6 +230,7 @@ pub record AreBounded {S : Type 0} (tells : S → Bool) (left : S → List ℕ) 
   pub few : entries ≤ most_for limits (taken_files parts)
   pub only : AllByRecursion (λ h. AllByRecursion (IsRecordAmong Compute limits (whole_files parts)) (recorded_in h.own)) passes
   pub nexts : AllByRecursion (λ h. AllByRecursion HasNext (calls_in h.own)) passes
+  pub of_sources : AllByRecursion (λ s. tells s ≡ true) sources → AllByRecursion (λ h. AllByRecursion (Among (flat_map leaves_of (chunkings left limits sources))) (registered_leaves (calls_in h.own))) passes
 
 module _ {S : Type 0} (tells : S → Bool) (left : S → List ℕ) (limits : LimitSettings) where
   bounded_none : AreBounded tells left limits 0 0 [] [] []
@@ -226,6 +245,7 @@ module _ {S : Type 0} (tells : S → Bool) (left : S → List ℕ) (limits : Lim
     few = omega arith;
     only = tt;
     nexts = tt;
+    of_sources = λ every. tt;
   }
 
   -- one part more
@@ -254,6 +274,12 @@ module _ {S : Type 0} (tells : S → Bool) (left : S → List ℕ) (limits : Lim
               (λ h all. all_more (IsRecordAmong Compute limits others) (IsRecordAmong Compute limits (first ++ others)) (recorded_in h.own) (λ r is. (is.0, among_right first others is.0 is.1, is.2)) all) more.only,
         );
         nexts = (one.nexts, more.nexts);
+        of_sources = λ every. (
+          left_first tells left limits part rest (registered_leaves (calls_in pass.own)) (one.of_sources (all_prefix (λ s. tells s ≡ true) part rest every)),
+          all_more (λ (h : Holder). AllByRecursion (Among (flat_map leaves_of (chunkings left limits rest))) (registered_leaves (calls_in h.own)))
+              (λ (h : Holder). AllByRecursion (Among (flat_map leaves_of (chunkings left limits (part ++ rest)))) (registered_leaves (calls_in h.own))) passes
+              (λ h all. left_after tells left limits part rest (registered_leaves (calls_in h.own)) all) (more.of_sources (all_back (λ s. tells s ≡ true) part rest every)),
+        );
       }
 
 module _ {S : Type 0} (tells : S → Bool) (left : S → List ℕ) (faults : S → ℕ) (old : RecordedState) where

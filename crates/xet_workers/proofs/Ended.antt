@@ -100,7 +100,7 @@ module _ (old mid new : RecordedState) (stopped : Bool) (since : IsSince old mid
   -- The passes of workers made no entry after the session was closed.
   calls_same : stopped ≡ false → (k : ℕ) → 1 ≤ k → calls_by k old new ≡ calls_in (made_by k (numbered (length old.history) (entries_since old mid)))
   calls_same going k some =
-      let of_zero : AllByRecursion (λ e. pass_of e ≡ 0) alone.since = steps_of_pass 0 mid.store.limits (core_of mid) alone.since (alone.whole going) in
+      let of_zero : AllByRecursion (λ e. pass_of e ≡ 0) alone.since = steps_of_pass 0 mid.store.limits (core_of mid) alone.since (alone.whole going).steps in
       let others : AllByRecursion (λ e. pass_of e ≢ k) (entries_since mid new) =
       subst (AllByRecursion (λ e. pass_of e ≢ k)) (sym last_since) (all_more (λ e. pass_of e ≡ 0) (λ e. pass_of e ≢ k) alone.since (λ e is same. absurd (omega (arith, is, same, some))) of_zero) in
       ap (λ (es : List Entry). calls_in (made_by k (numbered (length old.history) es))) both_since

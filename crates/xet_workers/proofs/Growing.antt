@@ -13,10 +13,12 @@ use Rattle.xet_history.specs.theorems.Joining.{after_all-append}
 use Rattle.xet_io.specs.Faults.{Rose}
 use Rattle.xet_locked_session.specs.Session.{HasRisenBy, IsSince, fault_count}
 use Rattle.xet_workers.proofs.Failures.{counted_fault, fault_count-append, fault_counted, steps_calm, until_failed}
-use Rattle.xet_locked_session.specs.Shared.{HaveEnded, HaveMade, StepOf, StepsBy, StepsByUntil}
-use Rattle.xet_store.specs.Alone.{IsAlone, IsFault, StepsTo, StepsUntil, cut_of, kind_of}
+use Rattle.xet_locked_session.specs.Shared.{HaveEnded, HaveMade, MakesStepsBy, MakesStepsByUntil, StepOf, StepsBy}
+use Rattle.xet_store.specs.Alone.{IsAlone, IsFault, MakesSteps, MakesStepsUntil, MayBeAsked, StepsTo, StepsUntil, attempted, cut_of, kind_of}
+use Rattle.xet_store.specs.Changes.{ChangesFiles, files_of}
 use Rattle.xet_store.specs.Recorded.{RecordedState, core_of}
 use Rattle.xet_store.specs.Steps.{Steps, fault_entries}
+use Rattle.xet_store.specs.theorems.Changing.{changes_then}
 use Rattle.xet_store.specs.theorems.Joining.{steps_both}
 use Rattle.xet_workers.specs.Cleaning.{GrowsBy, MadeBy}
 use Rattle.xet_workers.specs.internal.Ending.{IsLeft}
@@ -69,48 +71,69 @@ module _ (old mid new : RecordedState) (stopped : Bool) (since : IsSince old mid
           omega (arith, rose, since.steps.keeps.later)
 
   module _ (made : HaveMade old mid) where
-    first : StepsBy old.store.limits (core_of old) since.since
-    first = subst (StepsBy old.store.limits (core_of old)) (same_since old mid made.since since.since made.history since.steps.moves.history) made.steps
+    first : MakesStepsBy old mid since.since
+    first = subst (MakesStepsBy old mid) (same_since old mid made.since since.since made.history since.steps.moves.history) made.made
+
+    limits_are : mid.store.limits ≡ old.store.limits
+    limits_are = since.steps.keeps.limits
 
     -- from the core of the middle on
     moved : (es : List Entry) → StepsBy mid.store.limits (core_of mid) es → StepsBy old.store.limits (after_all (core_of old) since.since) es
-    moved es steps = subst (λ (c : Core). StepsBy old.store.limits c es) since.steps.moves.leads (subst (λ (s : LimitSettings). StepsBy s (core_of mid) es) since.steps.keeps.limits steps)
+    moved es steps = subst (λ (c : Core). StepsBy old.store.limits c es) since.steps.moves.leads (subst (λ (s : LimitSettings). StepsBy s (core_of mid) es) limits_are steps)
 
-    pub whole_by : StepsTo mid.store.limits 0 (core_of mid) alone.since → StepsBy old.store.limits (core_of old) (since.since ++ alone.since)
-    whole_by steps = steps_after old.store.limits (core_of old) since.since alone.since first (moved alone.since (steps_of_one mid.store.limits 0 (core_of mid) alone.since steps))
+    front : (es : List Entry) → StepsTo mid.store.limits 0 (core_of mid) es → StepsBy old.store.limits (core_of old) (since.since ++ es)
+    front es steps = steps_after old.store.limits (core_of old) since.since es first.steps (moved es (steps_of_one mid.store.limits 0 (core_of mid) es steps))
 
-    pub until_by : (e : StoreError) → StepsUntil mid.store.limits 0 (core_of mid) e alone.since → StepsByUntil old.store.limits (core_of old) e (since.since ++ alone.since)
-    until_by e u = subst (λ (s : LimitSettings). StepsByUntil s (core_of old) e (since.since ++ alone.since)) since.steps.keeps.limits here
+    -- what has changed on the disk
+    changed : (tried : List (List ℕ)) (es : List Entry) → ChangesFiles tried mid new es → ChangesFiles tried old new (since.since ++ es)
+    changed tried es next = changes_then old mid new [] tried since.since es since.steps.keeps.tells since.steps.keeps.folder first.changes next
+
+    whole_by : MakesSteps mid new alone.since → MakesStepsBy old new (since.since ++ alone.since)
+    whole_by m = record { steps = front alone.since m.steps; changes = changed [] alone.since m.changes }
+
+    core_then : (es : List Entry) → after_all (core_of mid) es ≡ after_all (core_of old) (since.since ++ es)
+    core_then es = ap (λ (c : Core). after_all c es) since.steps.moves.leads ∙ sym (after_all-append (core_of old) since.since es)
+
+    until_by : (e : StoreError) → MakesStepsUntil e mid new alone.since → MakesStepsByUntil e old new (since.since ++ alone.since)
+    until_by e m = record {
+      steps = record {
+        before = since.since ++ u.before;
+        steps = front u.before u.steps;
+        pass = 0;
+        step = u.step;
+        asked = subst (λ (s : LimitSettings). MayBeAsked s u.step) limits_are u.asked;
+        done = u.done;
+        completed = completed;
+        is = ap (λ (es : List Entry). since.since ++ es) u.is ∙ sym (append_assoc since.since u.before (u.done ++ fault_entries 0 (kind_of u.step) e));
+      };
+      changes = subst (λ (tried : List (List ℕ)). ChangesFiles tried old new (since.since ++ alone.since)) tried_same (changed (tried mid u.before) alone.since m.changes);
+    }
       where
-        front : StepsBy mid.store.limits (core_of old) (since.since ++ u.before)
-        front = subst (λ (s : LimitSettings). StepsBy s (core_of old) (since.since ++ u.before)) (sym since.steps.keeps.limits)
-            (steps_after old.store.limits (core_of old) since.since u.before first (moved u.before (steps_of_one mid.store.limits 0 (core_of mid) u.before u.steps)))
+        u : StepsUntil mid.store.limits 0 (core_of mid) e alone.since
+        u = m.steps
 
-        core : after_all (core_of mid) u.before ≡ after_all (core_of old) (since.since ++ u.before)
-        core = ap (λ (c : Core). after_all c u.before) since.steps.moves.leads ∙ sym (after_all-append (core_of old) since.since u.before)
+        completed : (u.done ≡ []) ⊎ (u.done ≡ cut_of 0 old.store.limits.shard_target u.step (after_all (core_of old) (since.since ++ u.before)))
+        completed =
+            subst (λ (s : LimitSettings). (u.done ≡ []) ⊎ (u.done ≡ cut_of 0 s.shard_target u.step (after_all (core_of old) (since.since ++ u.before)))) limits_are
+            (subst (λ (c : Core). (u.done ≡ []) ⊎ (u.done ≡ cut_of 0 mid.store.limits.shard_target u.step c)) (core_then u.before) u.completed)
 
-        here : StepsByUntil mid.store.limits (core_of old) e (since.since ++ alone.since)
-        here = record {
-          before = since.since ++ u.before;
-          steps = front;
-          pass = 0;
-          step = u.step;
-          asked = u.asked;
-          done = u.done;
-          completed = subst (λ (c : Core). (u.done ≡ []) ⊎ (u.done ≡ cut_of 0 mid.store.limits.shard_target u.step c)) core u.completed;
-          is = ap (λ (es : List Entry). since.since ++ es) u.is ∙ sym (append_assoc since.since u.before (u.done ++ fault_entries 0 (kind_of u.step) e));
-        }
+        -- the files of the step that failed
+        tried : RecordedState → List Entry → List (List ℕ)
+        tried s es = files_of s.store.folder (attempted 0 s.store.limits.shard_target u.step (after_all (core_of s) es))
+
+        tried_same : tried mid u.before ≡ tried old (since.since ++ u.before)
+        tried_same = λ i. files_of (since.steps.keeps.folder i) (attempted 0 (limits_are i).shard_target u.step (core_then u.before i))
 
     -- no step failed
     pub grows_whole : stopped ≡ false → GrowsBy None old new
     grows_whole going = record { entries = since.since ++ alone.since; steps = all_steps; made = whole_by (alone.whole going); rose = all_rose }
 
     -- perhaps one did
-    either_by : (b : Bool) → stopped ≡ b → StepsBy old.store.limits (core_of old) (since.since ++ alone.since) ⊎ ((error : StoreError) × StepsByUntil old.store.limits (core_of old) error (since.since ++ alone.since))
+    either_by : (b : Bool) → stopped ≡ b → MakesStepsBy old new (since.since ++ alone.since) ⊎ ((error : StoreError) × MakesStepsByUntil error old new (since.since ++ alone.since))
     either_by true is = let u = alone.until is in inr (u.0, until_by u.0 u.1)
     either_by false is = inl (whole_by (alone.whole is))
 
-    made_by_error : (e : StoreError) → (e ≡ Io Disk → Any IsFault alone.since) → MadeBy (Some e) old (since.since ++ alone.since)
+    made_by_error : (e : StoreError) → (e ≡ Io Disk → Any IsFault alone.since) → MadeBy (Some e) old new (since.since ++ alone.since)
     made_by_error (Io Disk) disk = until_by (Io Disk) (alone.disk (disk refl)).1
     made_by_error e disk = either_by stopped refl
 
@@ -120,26 +143,29 @@ module _ (old mid new : RecordedState) (stopped : Bool) (since : IsSince old mid
 -- ---- a session that was left
 
 module _ (old new : RecordedState) (left : IsLeft old new) where
-  left_either : StepsBy old.store.limits (core_of old) left.since.since ⊎ ((error : StoreError) × StepsByUntil old.store.limits (core_of old) error left.since.since)
+  abbrev Made : List Entry → Type 0
+  Made es = MakesStepsBy old new es ⊎ ((error : StoreError) × MakesStepsByUntil error old new es)
+
+  left_either : Made left.since.since
   left_either = go left.made
     where
-      go : HaveMade old new ⊎ HaveEnded old new → StepsBy old.store.limits (core_of old) left.since.since ⊎ ((error : StoreError) × StepsByUntil old.store.limits (core_of old) error left.since.since)
-      go (inl made) = inl (subst (StepsBy old.store.limits (core_of old)) (same_since old new made.since left.since.since made.history left.since.steps.moves.history) made.steps)
-      go (inr ended) = inr (ended.error, subst (StepsByUntil old.store.limits (core_of old) ended.error) (same_since old new ended.since left.since.since ended.history left.since.steps.moves.history) ended.steps)
+      go : HaveMade old new ⊎ HaveEnded old new → Made left.since.since
+      go (inl made) = inl (subst (MakesStepsBy old new) (same_since old new made.since left.since.since made.history left.since.steps.moves.history) made.made)
+      go (inr ended) = inr (ended.error, subst (MakesStepsByUntil ended.error old new) (same_since old new ended.since left.since.since ended.history left.since.steps.moves.history) ended.made)
 
   -- with a failure of the disk, the last step failed by it
-  left_disk : 1 ≤ fault_count left.since.since → StepsByUntil old.store.limits (core_of old) (Io Disk) left.since.since
+  left_disk : 1 ≤ fault_count left.since.since → MakesStepsByUntil (Io Disk) old new left.since.since
   left_disk some = go left_either
     where
-      go : StepsBy old.store.limits (core_of old) left.since.since ⊎ ((error : StoreError) × StepsByUntil old.store.limits (core_of old) error left.since.since) → StepsByUntil old.store.limits (core_of old) (Io Disk) left.since.since
-      go (inl made) = absurd (omega (arith, some, steps_calm old.store.limits (core_of old) left.since.since made))
-      go (inr ended) = by (until_failed old.store.limits (core_of old) ended.0 left.since.since ended.1)
+      go : Made left.since.since → MakesStepsByUntil (Io Disk) old new left.since.since
+      go (inl made) = absurd (omega (arith, some, steps_calm old.store.limits (core_of old) left.since.since made.steps))
+      go (inr ended) = by (until_failed old.store.limits (core_of old) ended.0 left.since.since ended.1.steps)
         where
-          by : (fault_count left.since.since ≡ 0) ⊎ ((fault_count left.since.since ≡ 1) × (ended.0 ≡ Io Disk)) → StepsByUntil old.store.limits (core_of old) (Io Disk) left.since.since
+          by : (fault_count left.since.since ≡ 0) ⊎ ((fault_count left.since.since ≡ 1) × (ended.0 ≡ Io Disk)) → MakesStepsByUntil (Io Disk) old new left.since.since
           by (inl none) = absurd (omega (arith, some, none))
-          by (inr one) = subst (λ (e : StoreError). StepsByUntil old.store.limits (core_of old) e left.since.since) one.1 ended.1
+          by (inr one) = subst (λ (e : StoreError). MakesStepsByUntil e old new left.since.since) one.1 ended.1
 
-  left_made : (e : StoreError) → (e ≡ Io Disk → 1 ≤ fault_count left.since.since) → MadeBy (Some e) old left.since.since
+  left_made : (e : StoreError) → (e ≡ Io Disk → 1 ≤ fault_count left.since.since) → MadeBy (Some e) old new left.since.since
   left_made (Io Disk) disk = left_disk (disk refl)
   left_made e disk = left_either
 

@@ -3,6 +3,7 @@ use Rattle.std.proofs.Common.{◌≡◌, ◌∙◌, ℕ, suc, ◌+◌, ◌*◌, 
 use Rattle.std.specs.List.{AllByRecursion, IsAmong, flat_map, sum_by}
 use Rattle.std.specs.Prelude.{Any}
 use Rattle.std.proofs.lemmas.List.{drop_all, drop_at, length-map, map-append, take_all}
+use Rattle.std.proofs.lemmas.List.Concat.{flat_map-append}
 use Rattle.std.proofs.lemmas.List.Sums.{sum_by-cons}
 use mathlib.Core.List.{IsPrefix}
 use Rattle.xet_aggregate.specs.Aggregate.{Aggregate}
@@ -12,10 +13,11 @@ use Rattle.xet_clean.specs.theorems.Ending.{among_made}
 use Rattle.xet_clean.specs.theorems.Hashes.{chunks_sum}
 use Rattle.xet_clean.specs.theorems.InOrder.{are_records}
 use Rattle.xet_clean.specs.theorems.Nexts.{closes_none, closes_then, lands_nexts}
+use Rattle.xet_clean.specs.theorems.Owning.{entries_of, in_after, in_more, planned_left}
 use Rattle.xet_clean.specs.theorems.Recorded.{HasRows, IsRecordAmong, RecordsHash, each_record, hash_of_file, only_files, record_files, rows_add, rows_after_all}
 use Rattle.xet_clean.specs.theorems.Session.{own_since, plans_resolve, plans_since, records_since, taken_among}
-use Rattle.xet_clean.specs.theorems.Turns.{done_counts, taken_each, untouched}
-use Rattle.xet_clean.specs.Cleaning.{AreRecords, ClosesLast, EachTaken, IsRecordFor, RecordsFile, calls_since, entries_since, files_in}
+use Rattle.xet_clean.specs.theorems.Turns.{done_counts, done_told, taken_each, untouched}
+use Rattle.xet_clean.specs.Cleaning.{AreRecords, ClosesLast, EachTaken, IsRecordFor, RecordsFile, RegistersOf, calls_since, entries_since, files_in}
 use Rattle.xet_clean.specs.Closing.{recorded_in}
 use Rattle.xet_clean.specs.Files.{leaves_in}
 use Rattle.xet_clean.specs.Merging.{Part, files_of}
@@ -27,7 +29,8 @@ use Rattle.xet_clean.specs.declared.working.Working.{Working}
 use Rattle.xet_cut.specs.Chunking.{chunking}
 use Rattle.xet_cut.specs.declared.limits.LimitSettings.{LimitSettings}
 use Rattle.xet_dedup.specs.Records.{file_record}
-use Rattle.xet_dedup_queries.specs.Counting.{HasNext}
+use Rattle.xet_dedup_queries.specs.Counting.{HasNext, registered_leaves}
+use Rattle.xet_hash.specs.Merkle.{leaves_of}
 use Rattle.xet_hash.specs.declared.error.StoreError.{StoreError}
 use Rattle.xet_history.specs.Core.{Core}
 use Rattle.xet_history.specs.History.{after_all, pass_of}
@@ -57,7 +60,7 @@ use Rattle.xet_workers.proofs.Joined.{files_leaves, files_policies, own_is, part
 use Rattle.xet_workers.proofs.Numbered.{HavePassed, all_passed, passed_count}
 use Rattle.xet_workers.proofs.Passed.{alone_of_pass}
 use Rattle.xet_workers.proofs.Refusing.{among_after, among_first}
-use Rattle.xet_workers.proofs.Since.{nexts_since, only_since, passes_since}
+use Rattle.xet_workers.proofs.Since.{nexts_since, only_since, passes_since, registers_since}
 use Rattle.xet_xorb_chunk.specs.Chunks.{chunk_leaf}
 
 -- ---- the files that entries record
@@ -123,8 +126,9 @@ module _ {S : Type 0} (workers : ℕ) (tells : S → Bool) (left : S → List �
 
   pub bounded_by : (parts : List (Turn S)) → length parts ≤ workers → sources ≡ flat_map (λ t. t.sources) parts → now ≡ flat_map (λ t. t.now) parts → AllByRecursion (IsReadInTurn tells left old.store.limits.max_source_bytes) parts
       → EachTaken tells left sources now (taken_files parts) → length (entries_since old new) ≤ most_for old.store.limits (taken_files parts) → AllByRecursion (RecordsFile Compute old.store.limits (whole_files parts)) (entries_since old new)
-      → AllByRecursion (λ e. pass_of e ≤ workers) (entries_since old new) → (last : List (List ℕ × ℕ)) → ClosesLast last (calls_since old new) → IsBoundedBy workers tells left sources now old new
-  bounded_by parts few before after turns taken bound only passes last registers =
+      → AllByRecursion (λ e. pass_of e ≤ workers) (entries_since old new) → (last : List (List ℕ × ℕ)) → ClosesLast last (calls_since old new)
+      → (AllByRecursion (λ s. tells s ≡ true) sources → AllByRecursion (RegistersOf (chunkings left old.store.limits sources)) (entries_since old new)) → IsBoundedBy workers tells left sources now old new
+  bounded_by parts few before after turns taken bound only passes last registers own =
       let whole : List (List ℕ) = whole_files parts in
       let kept = kept_files limits whole entries only in
       let plans = plans_since Compute old new entries steps.moves.leads kept.0 kept.2 in
@@ -152,6 +156,7 @@ module _ {S : Type 0} (workers : ℕ) (tells : S → Bool) (left : S → List �
             (all_more (IsAmong whole) is kept.0 (λ f a. all_among is whole f each (to_among whole f a)) kept.1) plans;
         last = last;
         registers = registers;
+        own = own;
       }
 
 -- ---- nothing was taken
@@ -173,6 +178,7 @@ module _ {S : Type 0} (workers : ℕ) (some : 1 ≤ workers) (tells : S → Bool
       (omega (arith, ap length none))
       (subst (AllByRecursion (RecordsFile Compute old.store.limits [])) (sym none) tt) (subst (AllByRecursion (λ e. pass_of e ≤ workers)) (sym none) tt) []
       (subst (λ (es : List Entry). ClosesLast [] (calls_in (numbered (length old.history) es))) (sym none) (closes_none [] tt))
+      (λ every. subst (AllByRecursion (RegistersOf (chunkings left old.store.limits sources))) (sym none) tt)
 
   -- ---- the workers have ended
 
@@ -188,6 +194,7 @@ module _ {S : Type 0} (workers : ℕ) (some : 1 ≤ workers) (tells : S → Bool
         (omega (arith, passed_count old new 1 passes passed known prefix once, are.few))
         (only_since old new passes passed known prefix once old.store.limits (whole_files are.parts) are.only) (passes_since old new passes passed known prefix once workers count) []
         (closes_none (calls_since old new) (nexts_since old new passes passed known prefix once are.nexts))
+        (λ every. registers_since old new passes passed known prefix once (chunkings left old.store.limits sources) (are.of_sources every))
 
 -- ---- all sources were cleaned, and then the parts were not merged
 
@@ -229,6 +236,26 @@ module _ (old : RecordedState) where
     all_nexts (suc n) ws ps are.1,
   )
   all_nexts n ws ps are = absurd are
+
+  -- the chunks that the passes registered are those of the files
+  abbrev all_leaves_of : List Planned → List (List ℕ × ℕ)
+  all_leaves_of fs = flat_map (λ (f : Planned). f.plan.leaves) fs
+
+  all_owned : (n : ℕ) (ws : List Worked) (ps : List Part) → ArePartsBy old n ws ps
+      → AllByRecursion (λ h. AllByRecursion (Among (flat_map (λ f. f.plan.leaves) (files_of ps))) (registered_leaves (calls_in h.own))) (passes_of ws)
+  all_owned n [] [] are = tt
+  all_owned n (w ∷ ws) (p ∷ ps) are =
+      let first : List (List ℕ × ℕ) = all_leaves_of p.files in
+      let rest : List (List ℕ × ℕ) = all_leaves_of (files_of ps) in
+      let own : AllByRecursion (Among (all_leaves_of p.files)) (registered_leaves (calls_in w.pass.own)) =
+      subst (λ (l : List (ℕ × Entry)). AllByRecursion (Among (all_leaves_of p.files)) (registered_leaves (calls_in l))) (own_is old n w p are.0)
+      (all_prefix (Among first) (registered_leaves (calls_in are.0.working.follows.own)) (map chunk_leaf p.left.chunks) are.0.working.own) in
+      subst (λ (ls : List (List ℕ × ℕ)). AllByRecursion (λ (h : Holder). AllByRecursion (Among ls) (registered_leaves (calls_in h.own))) (passes_of (w ∷ ws))) (sym (flat_map-append (λ (f : Planned). f.plan.leaves) p.files (files_of ps))) (
+        in_more first rest (registered_leaves (calls_in w.pass.own)) own,
+        all_more (λ (h : Holder). AllByRecursion (Among rest) (registered_leaves (calls_in h.own))) (λ (h : Holder). AllByRecursion (Among (first ++ rest)) (registered_leaves (calls_in h.own))) (passes_of ws)
+            (λ h all. in_after first rest (registered_leaves (calls_in h.own)) all) (all_owned (suc n) ws ps are.1),
+      )
+  all_owned n ws ps are = absurd are
 
   part_most : (n : ℕ) (w : Worked) (p : Part) → IsPartBy old n w p → length w.pass.own + (2 * length p.left.chunks + 2 * length p.left.files) ≤ most_for old.store.limits (map (λ f. f.bytes) p.files)
   part_most n w p is =
@@ -324,6 +351,22 @@ module _ {S : Type 0} (workers : ℕ) (some : 1 ≤ workers) (tells : S → Bool
   nexts_mid =
       nexts_since old n.mid passes passed n.closed.known n.closed.seen n.closed.own (subst (AllByRecursion (λ h. AllByRecursion HasNext (calls_in h.own))) same_passes (all_nexts old 1 ws ps are))
 
+  -- the chunks that were registered
+  own_all : AllByRecursion (λ s. tells s ≡ true) sources → AllByRecursion (RegistersOf (chunkings left old.store.limits sources)) (entries_since old new)
+  own_all every =
+      let chunks : List (List (List ℕ)) = chunkings left old.store.limits sources in
+      let same : flat_map (λ f. f.plan.leaves) (files_of ps) ≡ flat_map leaves_of (chunkings left old.store.limits sources) =
+      planned_left tells left old.store.limits sources (files_of ps) (done_told tells left faults old.store.limits.max_source_bytes sources now (files_of ps) done) every (files_leaves old 1 ws ps are) in
+      let mid : AllByRecursion (RegistersOf (chunkings left old.store.limits sources)) (entries_since old n.mid) =
+      registers_since old n.mid passes passed n.closed.known n.closed.seen n.closed.own chunks
+      (subst (AllByRecursion (λ (h : Holder). AllByRecursion (Among (flat_map leaves_of (chunkings left old.store.limits sources))) (registered_leaves (calls_in h.own)))) same_passes
+      (subst (λ (ls : List (List ℕ × ℕ)). AllByRecursion (λ (h : Holder). AllByRecursion (Among ls) (registered_leaves (calls_in h.own))) (passes_of ws)) same (all_owned old 1 ws ps are))) in
+      let last : AllByRecursion (RegistersOf (chunkings left old.store.limits sources)) (entries_since n.mid new) =
+      entries_of chunks (length n.mid.history) (entries_since n.mid new)
+      (subst (λ (l : List (ℕ × Entry)). AllByRecursion (Among (flat_map leaves_of (chunkings left old.store.limits sources))) (registered_leaves (calls_in l))) own_last
+      (subst (λ (ls : List (List ℕ × ℕ)). AllByRecursion (Among ls) (registered_leaves (calls_in n.refused.refused.all.own))) same n.refused.refused.own)) in
+      subst (AllByRecursion (RegistersOf (chunkings left old.store.limits sources))) (sym both) (all_both (RegistersOf chunks) (entries_since old n.mid) (entries_since n.mid new) mid last)
+
   passes_all : AllByRecursion (λ e. pass_of e ≤ workers) (entries_since old new)
   passes_all =
       subst (AllByRecursion (λ e. pass_of e ≤ workers)) (sym both)
@@ -364,3 +407,4 @@ module _ {S : Type 0} (workers : ℕ) (some : 1 ≤ workers) (tells : S → Bool
       (subst (AllByRecursion (RecordsFile Compute old.store.limits files)) (sym both) (all_both (RecordsFile Compute old.store.limits files) (entries_since old n.mid) (entries_since n.mid new) only_mid only_last)))
       passes_all n.refused.refused.last
       (subst (ClosesLast n.refused.refused.last) (sym calls) (closes_then n.refused.refused.last (calls_since old n.mid) (calls_in n.refused.refused.all.own) nexts_mid n.refused.refused.registers))
+      own_all

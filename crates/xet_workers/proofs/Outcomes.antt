@@ -50,7 +50,7 @@ since_nothing : (s : RecordedState) → IsSince s s
 since_nothing s = record { since = []; steps = steps_nothing s; failures = omega arith }
 
 left_unchanged : (s : RecordedState) → IsLeft s s
-left_unchanged s = record { since = since_nothing s; made = inl (record { since = []; history = sym (append-nil s.history); steps = StepsBy.begins; changes = changes_nothing [] s s [] refl }) }
+left_unchanged s = record { since = since_nothing s; made = inl (record { since = []; history = sym (append-nil s.history); made = record { steps = StepsBy.begins; changes = changes_nothing [] s s [] refl } }) }
 
 -- the numbers of a new session's passes
 none_own : (start : RecordedState) (number n : ℕ) → own_numbers (new_passes start number n) ≡ []
@@ -145,6 +145,7 @@ module _ (few many : ℕ) (less : few ≤ many) where
       resolve = is.resolve;
       last = is.last;
       registers = is.registers;
+      own = is.own;
     }
 
     bounded_result : (r : Result Cleaned StoreError) → IfErr r (λ e. IsBoundedBy few tells left ss ts old new) → IfErr r (λ e. IsBoundedBy many tells left ss ts old new)

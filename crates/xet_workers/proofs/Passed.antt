@@ -17,7 +17,7 @@ use Rattle.xet_shard_format.specs.RecordSizes.{file_record_size, xorb_record_siz
 use Rattle.xet_shard_format.specs.Records.{file_record_hash}
 use Rattle.xet_shard_format.specs.declared.record.FileDataSequenceEntry.{FileDataSequenceEntry as Segment}
 use Rattle.xet_shard_format.specs.declared.record.MDBFileInfo.{MDBFileInfo}
-use Rattle.xet_store.specs.Alone.{IsAlone, Step, StepsTo, StepsUntil, cut_of, kind_of}
+use Rattle.xet_store.specs.Alone.{IsAlone, MakesSteps, MakesStepsUntil, Step, StepsTo, StepsUntil, cut_of, kind_of}
 use Rattle.xet_store.specs.Recorded.{RecordedState, core_of}
 use Rattle.xet_store.specs.Steps.{fault_entries}
 use Rattle.xet_xorb.specs.Raw.{xorb_record}
@@ -89,6 +89,6 @@ module _ (pass : ℕ) where
 pub alone_of_pass : (old new : RecordedState) (stopped : Bool) (is : IsAlone old new stopped) → AllByRecursion (λ e. pass_of e ≡ 0) is.since
 alone_of_pass old new stopped is = go (some_made old new stopped is)
   where
-    go : StepsTo old.store.limits 0 (core_of old) is.since ⊎ ((error : StoreError) × StepsUntil old.store.limits 0 (core_of old) error is.since) → AllByRecursion (λ e. pass_of e ≡ 0) is.since
-    go (inl steps) = steps_of_pass 0 old.store.limits (core_of old) is.since steps
-    go (inr until) = until_of_pass 0 old.store.limits (core_of old) until.0 is.since until.1
+    go : MakesSteps old new is.since ⊎ ((error : StoreError) × MakesStepsUntil error old new is.since) → AllByRecursion (λ e. pass_of e ≡ 0) is.since
+    go (inl made) = steps_of_pass 0 old.store.limits (core_of old) is.since made.steps
+    go (inr until) = until_of_pass 0 old.store.limits (core_of old) until.0 is.since until.1.steps

@@ -1,21 +1,24 @@
 -- What holds of the entries of each pass holds of all entries since the session began.
 use Rattle.std.proofs.Common.{◌≡◌, ◌∙◌, inl, inr, ℕ, suc, ◌+◌, ◌≤◌, List, [], ◌∷◌, ◌++◌, length, map, refl, sym, ap, subst, arith}
-use Rattle.std.specs.List.{AllByRecursion}
+use Rattle.std.specs.List.{AllByRecursion, flat_map}
 use Rattle.std.proofs.lemmas.Bool.{cases_eq}
 use mathlib.Core.List.{IsPrefix}
 use Rattle.xet_base.specs.theorems.Elements.{all_back, all_both, all_more, all_prefix}
+use Rattle.xet_clean.specs.theorems.Owning.{own_registers}
 use Rattle.xet_clean.specs.theorems.Recorded.{IsRecordAmong, record_files}
-use Rattle.xet_clean.specs.Cleaning.{RecordsFile, calls_since, entries_since}
+use Rattle.xet_clean.specs.Cleaning.{RecordsFile, RegistersOf, calls_since, entries_since}
 use Rattle.xet_clean.specs.Closing.{recorded_in}
 use Rattle.xet_clean.specs.declared.policy.Sha256Policy.TheVariants.{Compute}
 use Rattle.xet_cut.specs.declared.limits.LimitSettings.{LimitSettings}
-use Rattle.xet_dedup_queries.specs.Counting.{HasNext}
+use Rattle.xet_dedup_queries.specs.Counting.{HasNext, registered_leaves}
+use Rattle.xet_hash.specs.Merkle.{leaves_of}
 use Rattle.xet_history.specs.History.{pass_of}
 use Rattle.xet_history.specs.declared.entry.Entry.{Entry}
 use Rattle.xet_locked_session.specs.Passes.{IsSeen, own_numbers}
 use Rattle.xet_shared_history.specs.Owned.{HasEachOnce}
 use Rattle.xet_store.specs.Holders.{Holder, call_at, calls_in, numbered, seen}
 use Rattle.xet_store.specs.Recorded.{RecordedState}
+use Rattle.xet_store_disk.specs.Separate.{Among}
 use Rattle.xet_workers.specs.Cleaning.{made_by}
 use Rattle.xet_workers.proofs.Numbered.{HavePassed, passed_differ, passed_from, passed_number}
 use Rattle.xet_workers.proofs.Parting.{HasPass, Parted, all_with, made_apart, made_here, of_passes, parted}
@@ -102,6 +105,12 @@ module _ (old new : RecordedState) (passes : List Holder) (passed : HavePassed o
   nexts_since each =
       calls_nexts xs
       (from_own IsFurther (all_more (λ (h : Holder). AllByRecursion HasNext (calls_in h.own)) (λ (h : Holder). AllByRecursion IsFurther h.own) passes (λ h all. own_nexts h.own all) each))
+
+  pub registers_since : (files : List (List (List ℕ))) → AllByRecursion (λ h. AllByRecursion (Among (flat_map leaves_of files)) (registered_leaves (calls_in h.own))) passes → AllByRecursion (RegistersOf files) (entries_since old new)
+  registers_since files each =
+      of_numbered (RegistersOf files) (length old.history) (entries_since old new)
+      (from_own (λ x. RegistersOf files x.1)
+      (all_more (λ (h : Holder). AllByRecursion (Among (flat_map leaves_of files)) (registered_leaves (calls_in h.own))) (λ (h : Holder). AllByRecursion (λ x. RegistersOf files x.1) h.own) passes (λ h all. own_registers files h.own all) each))
 
   pub passes_since : (workers : ℕ) → length passes ≤ workers → AllByRecursion (λ e. pass_of e ≤ workers) (entries_since old new)
   passes_since workers few =

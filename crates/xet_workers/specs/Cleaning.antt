@@ -6,7 +6,7 @@ use Rattle.xet_aggregate.specs.declared.metrics.DeduplicationMetrics.{Deduplicat
 use Rattle.xet_choices.specs.Calls.{Call, registered_chunks}
 use Rattle.xet_choices.specs.Choices.{new_chunks, no_place_entries}
 use Rattle.xet_choices.specs.declared.choice.Choice.{Choice}
-use Rattle.xet_clean.specs.Cleaning.{AreRecords, ClosesLast, EachTaken, RecordsFile, RegistersFew, calls_since, entries_since, files_in, metrics_sum}
+use Rattle.xet_clean.specs.Cleaning.{AreRecords, ClosesLast, EachTaken, RecordsFile, RegistersFew, RegistersOf, calls_since, entries_since, files_in, metrics_sum}
 use Rattle.xet_clean.specs.Files.{HasChoices}
 use Rattle.xet_clean.specs.Policies.{info_by}
 use Rattle.xet_clean.specs.Sources.{AreRead}
@@ -19,11 +19,11 @@ use Rattle.xet_hash.specs.declared.error.StoreError.TheVariants.{Io}
 use Rattle.xet_history.specs.History.{pass_of}
 use Rattle.xet_history.specs.declared.entry.Entry.{Entry}
 use Rattle.xet_io.specs.Faults.{Rose}
-use Rattle.xet_locked_session.specs.Shared.{StepsBy, StepsByUntil}
+use Rattle.xet_locked_session.specs.Shared.{MakesStepsBy, MakesStepsByUntil}
 use Rattle.xet_shard_format.specs.declared.record.MDBFileInfo.{MDBFileInfo}
 use Rattle.xet_store.specs.Alone.{IsFault}
 use Rattle.xet_store.specs.Holders.{calls_in, numbered}
-use Rattle.xet_store.specs.Recorded.{RecordedState, core_of}
+use Rattle.xet_store.specs.Recorded.{RecordedState}
 use Rattle.xet_store.specs.Steps.{Steps}
 use Rattle.xet_store_disk.specs.Cleaning.{Adds, EachTold, HasFile, chunkings, info_of}
 use Rattle.xet_store_disk.specs.Separate.{Separate}
@@ -107,7 +107,7 @@ pub record IsReadInTurn {S : Type 0} (tells : S → Bool) (left : S → List ℕ
 -- are at most three entries for each chunk of what was taken and two for each source, made by the passes of the workers and by
 -- pass 0. The files recorded are files of sources that were read to their ends. Each has a plan; and if disk and sources are
 -- observable, and there are no collisions among the data seen, it resolves to the file's chunks. At most one xorb, the last, was
--- registered without further chunks.
+-- registered without further chunks. If the sources are observable, each xorb has only chunks of what they had left.
 pub record IsBoundedBy {S : Type 0} (workers : ℕ) (tells : S → Bool) (left : S → List ℕ) (sources now : List S) (old new : RecordedState) : Type 0 where
   pub parts : List (Turn S)
   pub few : length parts ≤ workers
@@ -126,20 +126,22 @@ pub record IsBoundedBy {S : Type 0} (workers : ℕ) (tells : S → Bool) (left :
       → AllByRecursion (HasFile new.store) (map (chunking old.store.limits) recorded)
   pub last : List (List ℕ × ℕ)
   pub registers : ClosesLast last (calls_since old new)
+  pub own : AllByRecursion (λ s. tells s ≡ true) sources → AllByRecursion (RegistersOf (chunkings left old.store.limits sources)) (entries_since old new)
 
 -- ---- the history
 
--- The entries were added by completed steps of passes, or also by one that failed and was the last. No step failed if there was no
--- error. One failed by the disk if that is the error.
-abbrev pub MadeBy : Option StoreError → RecordedState → List Entry → Type 0
-MadeBy None s entries = StepsBy s.store.limits (core_of s) entries
-MadeBy (Some (Io Disk)) s entries = StepsByUntil s.store.limits (core_of s) (Io Disk) entries
-MadeBy (Some e) s entries = StepsBy s.store.limits (core_of s) entries ⊎ ((error : StoreError) × StepsByUntil s.store.limits (core_of s) error entries)
+-- Between two states the entries were made by completed steps of passes, or also by one that failed and was the last. No step failed
+-- if there was no error. One failed by the disk if that is the error. On the disk nothing has changed but the files that the entries
+-- name, and those of the step that failed.
+abbrev pub MadeBy : Option StoreError → RecordedState → RecordedState → List Entry → Type 0
+MadeBy None old new entries = MakesStepsBy old new entries
+MadeBy (Some (Io Disk)) old new entries = MakesStepsByUntil (Io Disk) old new entries
+MadeBy (Some e) old new entries = MakesStepsBy old new entries ⊎ ((error : StoreError) × MakesStepsByUntil error old new entries)
 
 -- A call, with an error or none, added these entries to the history, and they lead to its core. If one of them is a failure of
 -- the disk, the disk's count of failures rose.
 pub record GrowsBy (error : Option StoreError) (old new : RecordedState) : Type 0 where
   pub entries : List Entry
   pub steps : Steps old new entries
-  pub made : MadeBy error old entries
+  pub made : MadeBy error old new entries
   pub rose : Any IsFault entries → Rose old.store.faults new.store.faults

@@ -6,7 +6,9 @@ use Rattle.xet_aggregate.specs.declared.metrics.DeduplicationMetrics.{Deduplicat
 use Rattle.xet_choices.specs.Calls.{Call, queries_of, registered_chunks}
 use Rattle.xet_choices.specs.declared.choice.Choice.{Choice}
 use Rattle.xet_cut.specs.Limits.{AreInRange}
+use Rattle.xet_dedup_queries.specs.Counting.{registered_leaves}
 use Rattle.xet_store.specs.Holders.{Follows, Holder, calls_in}
+use Rattle.xet_store_disk.specs.Separate.{Among}
 use Rattle.xet_store_disk.specs.declared.info.XetFileInfo.{XetFileInfo}
 use Rattle.xet_xorb_chunk.specs.Chunks.{chunk_leaf}
 use Rattle.xet_clean.specs.Cleaning.{IsPart, Lands, RegistersPart, metrics_sum}
@@ -22,7 +24,7 @@ abbrev pub IsLater : List (List ℕ × ℕ) → List Call → List (List ℕ × 
 IsLater last calls part = Any (RegistersPart part) calls ⊎ IsPart part last
 
 -- What is left of these parts was merged, in order: the records that waited were made or wait in the aggregate, and the chunks
--- were registered or are in it.
+-- were registered or are in it. These are only chunks of the files of the parts.
 pub record IsMerged (ps : List Part) (old now : Holder) (infos : List XetFileInfo) (choices : List (List Choice)) (metrics : DeduplicationMetrics) (a : Aggregate) : Type 0 where
   pub follows : Follows old now
   pub going : now.stopped ≡ old.stopped
@@ -41,6 +43,7 @@ pub record IsMerged (ps : List Part) (old now : Holder) (infos : List XetFileInf
   pub held : AllByRecursion (λ p. IsLater (map chunk_leaf a.chunks) (calls_in follows.own) (map chunk_leaf p.left.chunks)) ps
   pub asked : queries_of (calls_in follows.own) ≡ 0
   pub few : length follows.own + (2 * length a.chunks + 2 * length a.files) ≤ sum_by (λ p. 2 * length p.left.chunks + 2 * length p.left.files) ps
+  pub own : AllByRecursion (Among (flat_map (λ f. f.plan.leaves) (files_of ps))) (registered_leaves (calls_in follows.own) ++ map chunk_leaf a.chunks)
 
 -- Some of the parts were merged, and these are what workers have of the others.
 pub record IsMerging (ps : List Part) (rest : List Working) (old now : Holder) (infos : List XetFileInfo) (choices : List (List Choice)) (metrics : DeduplicationMetrics) (a : Aggregate) : Type 0 where

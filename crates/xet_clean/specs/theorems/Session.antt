@@ -2,7 +2,7 @@
 use Rattle.std.proofs.Common.{◌≡◌, ◌∙◌, ◌⊎◌, ◌≤◌, inl, inr, ℕ, zero, suc, Bool, true, false, List, [], ◌∷◌, ◌++◌, length, map, drop, Option, None, IsSome, refl, sym, ap, subst, append-nil, arith, take}
 use Rattle.std.proofs.lemmas.List.{drop_all, drop_at, length-map, take_all}
 use Rattle.std.proofs.lemmas.Simd.{map-map}
-use Rattle.std.specs.List.{AllByRecursion, sum_by}
+use Rattle.std.specs.List.{AllByRecursion, flat_map, sum_by}
 use Rattle.xet_aggregate.specs.declared.metrics.DeduplicationMetrics.{DeduplicationMetrics}
 use Rattle.xet_base.specs.theorems.Elements.{all_more}
 use Rattle.xet_choices.specs.Calls.{registered_chunks}
@@ -10,6 +10,8 @@ use Rattle.xet_choices.specs.Choices.{new_chunks}
 use Rattle.xet_choices.specs.declared.choice.Choice.{Choice}
 use Rattle.xet_cut.specs.Chunking.{chunking}
 use Rattle.xet_cut.specs.declared.limits.LimitSettings.{LimitSettings}
+use Rattle.xet_dedup_queries.specs.Counting.{registered_leaves}
+use Rattle.xet_hash.specs.Merkle.{leaves_of}
 use Rattle.xet_hash.specs.declared.error.StoreError.{StoreError}
 use Rattle.xet_history.specs.Core.{Core}
 use Rattle.xet_history.specs.History.{after_all}
@@ -24,7 +26,7 @@ use Rattle.xet_store_disk.specs.Separate.{Among, Separate}
 use Rattle.xet_store_disk.specs.Store.{Sound, plan_of}
 use Rattle.xet_store_disk.specs.declared.info.XetFileInfo.{XetFileInfo}
 use Rattle.xet_store_disk.specs.theorems.Files.{recorded_file}
-use Rattle.xet_store.specs.Alone.{IsAlone, StepsTo, StepsUntil, alone_of}
+use Rattle.xet_store.specs.Alone.{IsAlone, MakesSteps, MakesStepsUntil, alone_of}
 use Rattle.xet_store.specs.Holders.{Follows, Holder, calls_in, core_at, numbered}
 use Rattle.xet_store.specs.theorems.Following.{length-numbered}
 use Rattle.xet_clean.specs.Cleaning.{AreChosen, AreRecords, ClosesLast, EachTaken, Grows, IsBounded, IsCleaned, Makes, RecordsFile, RegistersFew, calls_since, entries_since, files_in, metrics_sum}
@@ -36,6 +38,7 @@ use Rattle.xet_clean.specs.theorems.Choosing.{are_chosen, leaves_sum, new_sum}
 use Rattle.xet_clean.specs.theorems.Ending.{IsEnded, ended}
 use Rattle.xet_clean.specs.theorems.Hashes.{all_leaves}
 use Rattle.xet_clean.specs.theorems.InOrder.{are_records}
+use Rattle.xet_clean.specs.theorems.Owning.{entries_of}
 use Rattle.xet_clean.specs.theorems.Recorded.{HasRows, RecordsHash, hash_of_file, only_files, plans_found, recorded_found, rows_add, rows_after_all}
 use Rattle.xet_clean.specs.Policies.{info_by}
 use Rattle.xet_clean.specs.declared.policy.Sha256Policy.{Sha256Policy}
@@ -54,14 +57,14 @@ module _ (old new : RecordedState) (stopped : Bool) (is : IsAlone old new stoppe
   core_is = steps_since.moves.leads
 
   -- how the history grew
-  pub grows_by : (error : Option StoreError) → Makes error old is.since → Grows error old new
+  pub grows_by : (error : Option StoreError) → Makes error old new is.since → Grows error old new
   grows_by error makes = record { entries = is.since; steps = is.steps; makes = makes; rose = is.rose }
 
   -- by completed steps, or also by one that failed
-  pub some_made : StepsTo old.store.limits 0 (core_of old) is.since ⊎ ((error : StoreError) × StepsUntil old.store.limits 0 (core_of old) error is.since)
+  pub some_made : MakesSteps old new is.since ⊎ ((error : StoreError) × MakesStepsUntil error old new is.since)
   some_made = by stopped refl
     where
-      by : (b : Bool) → stopped ≡ b → StepsTo old.store.limits 0 (core_of old) is.since ⊎ ((error : StoreError) × StepsUntil old.store.limits 0 (core_of old) error is.since)
+      by : (b : Bool) → stopped ≡ b → MakesSteps old new is.since ⊎ ((error : StoreError) × MakesStepsUntil error old new is.since)
       by true e = inr (is.until e)
       by false e = inl (is.whole e)
 
@@ -177,6 +180,9 @@ bounded_since policy tells left sources now old new stopped e is sound tell last
           (taken_among tells left old.store.limits short.done short.count short.recorded sources now short.files short.taken all tell short.read.read) plans;
       last = last;
       registers = subst (λ (l : List (ℕ × Entry)). ClosesLast last (calls_in l)) own short.registers;
+      own = λ all.
+          entries_of (chunkings left old.store.limits sources) (length old.history) (entries_since old new)
+          (subst (λ (l : List (ℕ × Entry)). AllByRecursion (Among (flat_map leaves_of (chunkings left old.store.limits sources))) (registered_leaves (calls_in l))) own (short.own all));
     }
 
 -- ---- all sources were cleaned

@@ -3,23 +3,19 @@
 ghost use Rattle.std.specs.Prelude.{◌<◌};
 
 use crate::errors::TestError;
-use crate::known::KnownXorb;
 use crate::list_store::ListStore;
 use crate::tests::filing::{deduplicate, deduplicate_stream};
 use crate::tests::samples::{
-    block, blocks, chunks_of_zeros, known_xorb, metrics, open, small, small_limits,
+    FILE, block, blocks, chunks_of_zeros, dependency, knowing, known_xorb, metrics, open, small,
+    small_limits,
 };
 use crate::tests::shown::{Event, Expected, Shown, agreement, error_of, look_at};
 use std::alloc::Global;
 use std::test::Fail;
 use xet_choices::Choice;
 use xet_cut::{LimitSettings, Limits};
-use xet_dedup_queries::FileXorbDependency;
-use xet_hash::{MerkleHash, StoreError, compute_data_hash, xorb_hash};
+use xet_hash::{StoreError, compute_data_hash, xorb_hash};
 use xet_shard_format::FileDataSequenceEntry;
-
-/// The number of the file.
-const FILE: u64 = 7;
 
 /// Deduplicates 200 zero bytes against an empty store. The first batch has three chunks, and the second one.
 fn zeros(alloc: Global) -> Result<Shown, TestError> {
@@ -89,13 +85,6 @@ fn streams_are_deduplicated_piece_by_piece(rt: HostRuntime) -> Result<(), Fail> 
     Ok(())
 }
 
-/// A store that knows this xorb.
-fn knowing(alloc: Global, xorb: KnownXorb) -> Result<ListStore, TestError> {
-    let mut store = ListStore::new(alloc, (0, 0));
-    store.xorbs.push(xorb)?;
-    Ok(store)
-}
-
 /// Deduplicates so many blocks, in one batch, against a store.
 fn in_one_batch(
     alloc: Global,
@@ -130,16 +119,6 @@ fn known_run_is_used_after_one_query(rt: HostRuntime) -> Result<(), Fail> {
     };
     assert_eq!(rt; agreement(&file, &expected), [true; 5]);
     Ok(())
-}
-
-/// That the file uses a xorb.
-fn dependency(xorb_hash: MerkleHash, n_bytes: u64, is_external: bool) -> FileXorbDependency {
-    FileXorbDependency {
-        file_id: FILE,
-        xorb_hash,
-        n_bytes,
-        is_external,
-    }
 }
 
 /// Deduplicates eight blocks against a store that knows the last three. The guard looks at one range, and rejects a run

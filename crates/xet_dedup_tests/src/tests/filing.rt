@@ -14,6 +14,7 @@ use xet_aggregate::DeduplicationMetrics;
 use xet_cut::{Chunker, Limits};
 use xet_dedup::{DedupError, FileDeduper, Finalized};
 use xet_hash::{StoreError, compute_data_hash};
+use xet_shard_format::FileMetadataExt;
 use xet_xorb_chunk::Chunk;
 
 /// The maximum number of chunks of a file.
@@ -60,12 +61,28 @@ pub fn deduplicate(
     requires { 0 < batch }
     ensures { IfOk result (λ filed. IsAggregate filed.file.rest) }
 {
+    deduplicate_with(alloc, store, limits, file_id, chunks, batch, None)
+}
+
+/// Deduplicates a file with this metadata, if any, as `deduplicate` does.
+pub fn deduplicate_with(
+    alloc: Global,
+    store: ListStore,
+    limits: &Limits,
+    file_id: u64,
+    chunks: &[Chunk],
+    batch: usize,
+    metadata_ext: Option<FileMetadataExt>,
+) -> Result<Filed, Unfiled>
+    requires { 0 < batch }
+    ensures { IfOk result (λ filed. IsAggregate filed.file.rest) }
+{
     let mut store = store;
     store.cut_limits = (limits.cut_bytes(), limits.cut_chunks());
     match FileDeduper::new(alloc, store, file_id, limits) {
         Ok(mut deduper) => {
             let placed = place_all(alloc, &mut deduper, limits, chunks, batch);
-            ended(deduper, placed)
+            ended(deduper, placed, metadata_ext)
         }
         Err((store, error)) => Err(Unfiled {
             store,
@@ -91,7 +108,7 @@ pub fn deduplicate_stream(
     match FileDeduper::new(alloc, store, file_id, limits) {
         Ok(mut deduper) => {
             let placed = place_stream(alloc, &mut deduper, limits, bytes, piece);
-            ended(deduper, placed)
+            ended(deduper, placed, None)
         }
         Err((store, error)) => Err(Unfiled {
             store,
@@ -101,16 +118,17 @@ pub fn deduplicate_stream(
     }
 }
 
-/// Ends the file, if all batches were placed.
+/// Ends the file with this metadata, if any, if all batches were placed.
 fn ended(
     deduper: FileDeduper<ListStore>,
     placed: Result<Vec<DeduplicationMetrics>, DedupError<TestError>>,
+    metadata_ext: Option<FileMetadataExt>,
 ) -> Result<Filed, Unfiled>
     requires { OnOk placed ((settings : LimitSettings) × IsFiling settings deduper.whole deduper.start.value deduper.interface deduper.plan) }
     ensures { IfOk result (λ filed. IsAggregate filed.file.rest) }
 {
     match placed {
-        Ok(batches) => match deduper.finalize(None) {
+        Ok(batches) => match deduper.finalize(metadata_ext) {
             Ok(file) => Ok(Filed { file, batches }),
             Err((store, error)) => Err(Unfiled {
                 store,

@@ -4,13 +4,18 @@ ghost use Rattle.std.specs.Prelude.{◌≡◌};
 
 use crate::errors::TestError;
 use crate::known::KnownXorb;
+use crate::list_store::ListStore;
 use bytes::Bytes;
 use std::alloc::Global;
 use xet_aggregate::DeduplicationMetrics;
 use xet_cut::{LimitSettings, Limits};
+use xet_dedup_queries::FileXorbDependency;
 use xet_hash::{MerkleHash, StoreError, compute_data_hash};
 use xet_shard_format::FileDataSequenceEntry;
 use xet_xorb_chunk::Chunk;
+
+/// The number of the file.
+pub const FILE: u64 = 7;
 
 /// The settings of chunks from 64 to 1,024 bytes, with a target of 512.
 pub fn small(gear: [u64; 256]) -> LimitSettings {
@@ -67,6 +72,19 @@ pub fn blocks(alloc: Global, count: u8) -> Result<Vec<Chunk>, StoreError> {
     Ok(chunks)
 }
 
+/// Chunks of so many bytes, one for each of these values, which all its bytes have.
+pub fn uniform_chunks(
+    alloc: Global,
+    values: &[u8],
+    length: usize,
+) -> Result<Vec<Chunk>, StoreError> {
+    let mut chunks = Vec::with_capacity(alloc, values.len())?;
+    for value in values {
+        chunks.push(Chunk::new(Bytes::from_vec(vec![in alloc; *value; length]?)?))?;
+    }
+    Ok(chunks)
+}
+
 /// The hash and the length of the block whose bytes have this value.
 pub fn block(value: u8) -> (MerkleHash, u64)
     ensures { result.1 ≡ 64 }
@@ -86,6 +104,23 @@ pub fn known_xorb(
         leaves.push(block(*value))?;
     }
     KnownXorb::new(compute_data_hash(name), leaves, is_external)
+}
+
+/// A store that knows this xorb.
+pub fn knowing(alloc: Global, xorb: KnownXorb) -> Result<ListStore, TestError> {
+    let mut store = ListStore::new(alloc, (0, 0));
+    store.xorbs.push(xorb)?;
+    Ok(store)
+}
+
+/// That the file uses a xorb.
+pub fn dependency(xorb_hash: MerkleHash, n_bytes: u64, is_external: bool) -> FileXorbDependency {
+    FileXorbDependency {
+        file_id: FILE,
+        xorb_hash,
+        n_bytes,
+        is_external,
+    }
 }
 
 /// The segment of the chunks `start`..`end`, the end excluded, of chunks that are in no xorb yet.

@@ -2,11 +2,11 @@
 use Rattle.std.specs.Prelude.{◌≡◌, ◌⊎◌, Bool, true, false, List, [], ◌++◌, ℕ}
 use Rattle.xet_hash.specs.declared.error.StoreError.{StoreError}
 use Rattle.xet_history.specs.declared.entry.Entry.{Entry}
-use Rattle.xet_store.specs.Alone.{MayBeAsked, Step, cut_of, kind_of}
+use Rattle.xet_store.specs.Alone.{MayBeAsked, Step, attempted, cut_of, kind_of}
 use Rattle.xet_store.specs.Changes.{ChangesFiles, Tries}
 use Rattle.xet_store.specs.Recorded.{RecordedState, core_of}
 use Rattle.xet_store.specs.Steps.{fault_entries}
-use Rattle.xet_locked_session.specs.Shared.{HaveEnded, HaveMade, StepOf, attempted}
+use Rattle.xet_locked_session.specs.Shared.{HaveEnded, HaveMade, StepOf}
 
 -- Between two states of a store one step of a pass was completed.
 pub record HasStep (pass : ℕ) (old new : RecordedState) : Type 0 where

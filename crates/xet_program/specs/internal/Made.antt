@@ -1,15 +1,39 @@
 -- Files of `make` that were stored in a session, for private functions.
-use Rattle.std.specs.Prelude.{◌≡◌, ℕ, ◌+◌, ◌≤◌, Bool, List, ◌++◌, length, IsSome}
+use Rattle.std.specs.Prelude.{◌≡◌, ℕ, ◌+◌, ◌*◌, ◌≤◌, Bool, List, ◌++◌, length, IsSome}
 use Rattle.std.specs.List.{AllByRecursion, sum_by}
 use Rattle.xet_aggregate.specs.declared.metrics.DeduplicationMetrics.{DeduplicationMetrics}
 use Rattle.xet_cut.specs.Chunking.{chunking}
 use Rattle.xet_cut.specs.declared.limits.LimitSettings.{LimitSettings}
 use Rattle.xet_folder.specs.Xorbs.{Xorbs}
+use Rattle.xet_history.specs.declared.entry.Entry.{Entry}
+use Rattle.xet_history.specs.declared.entry.Entry.TheVariants.{Query, Register, Complete, Flush, Fault}
+use Rattle.xet_shard.specs.Held.{held_size}
 use Rattle.xet_store_disk.specs.Cleaning.{EachTold}
 use Rattle.xet_store_disk.specs.Store.{State, plan_of}
 use Rattle.xet_program.specs.declared.make.ChunkCounts.{ChunkCounts}
 use Rattle.xet_program.specs.Making.{both_files, chunk_count, chunks_line, made_text, with_byte_inserted, xorbs_line}
 use Rattle.xet_program.specs.Report.{hash_of_file}
+
+-- the most bytes that the records of a file of these bytes add to what is pending: its own record, and those of the xorbs in which
+-- its new chunks are stored
+abbrev pub max_pending : LimitSettings → List ℕ → ℕ
+max_pending s bytes = 340 * length (chunking s bytes) + 228
+
+-- What is pending and the records of these files come to no more than a shard's target. So no cut is due while they are stored.
+abbrev pub FitsPending : State → List (List ℕ) → Type 0
+FitsPending s files = held_size s.pending + sum_by (max_pending s.limits) files ≤ s.limits.shard_target
+
+-- No more was added to what is pending than the records of these files.
+abbrev pub Pends : List (List ℕ) → State → State → Type 0
+Pends files old new = held_size new.pending ≤ held_size old.pending + sum_by (max_pending old.limits) files
+
+-- The entry is that of no flush.
+abbrev pub IsNoFlush : Entry → Type 0
+IsNoFlush (Query pass hashes reply) = Unit {0}
+IsNoFlush (Register pass chunks next added) = Unit {0}
+IsNoFlush (Complete pass file added) = Unit {0}
+IsNoFlush (Flush pass shard) = ⊥
+IsNoFlush (Fault pass kind) = Unit {0}
 
 -- Each source has a file: of an observable source, the bytes that it had left. The metrics count the chunks of these files, and
 -- no more new ones.

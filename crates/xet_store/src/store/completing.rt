@@ -1,6 +1,6 @@
 //! Recording of files, with its entries.
 
-ghost use Rattle.std.specs.Prelude.{◌≡◌, ◌↔◌, ◌⊎◌, ◌≤◌, ◌+◌, [], true, None, IfErr, IfOk, IsOkUnless, IsTrue, OnErr, OnOk, length, map, option_map, vec_capacity, vec_len};
+ghost use Rattle.std.specs.Prelude.{◌≡◌, ◌≢◌, ◌↔◌, ◌⊎◌, ◌≤◌, ◌+◌, [], true, None, IfErr, IfOk, IsErr, IsOkUnless, IsTrue, OnErr, OnOk, length, map, option_map, vec_capacity, vec_len};
 ghost use Rattle.xet_completion.specs.Completing.{Completes};
 ghost use Rattle.xet_folder.specs.Xorbs.{found};
 ghost use Rattle.xet_history.specs.Core.{is_new};
@@ -8,13 +8,14 @@ ghost use Rattle.xet_history.specs.History.{complete_cut, complete_entries};
 ghost use Rattle.xet_io.specs.Disk.{Files};
 ghost use Rattle.xet_shard_format.specs.Records.{IsFile, file_record_hash};
 ghost use Rattle.xet_store.specs.Recorded.{core_of, recorded_state};
-ghost use Rattle.xet_store.specs.Steps.{CompleteRefuses, IsOtherFile, Records, Refuses, Steps};
+ghost use Rattle.xet_store.specs.Steps.{CompleteRefuses, IsFullError, IsOtherFile, Records, Refuses, Steps};
 ghost use Rattle.xet_store_disk.specs.Store.{IsNewFile};
 ghost use Rattle.xet_folder.specs.Changes.{GoesBy};
 ghost use Rattle.xet_folder.specs.Puts.{IsSettled};
 ghost use Rattle.xet_shard_format.specs.RecordSizes.{file_record_size};
 ghost use Rattle.xet_store.specs.Changes.{ChangesFiles, Tries, cut_changes};
 ghost use Rattle.xet_store_disk.specs.Crash.{CrashSafe};
+ghost use Rattle.xet_store_disk.specs.Flushing.{IsFull};
 
 use crate::store::Store;
 use crate::store::flushing::cut_store;
@@ -55,10 +56,13 @@ impl<D: Disk> Store<D> {
         // A file that may not be recorded is refused before anything is done.
         ensures other { (Completes self.old.store.xorbs file → ⊥) → IfErr result (λ e. IsOtherFile self.old self.new file e ⊎ ((e ≡ StoreError.OutOfMemory) × (self.new ≡ self.old))) }
         ensures refused { IfErr result (λ e. IsOtherFile self.old self.new file e ⊎ Refuses 0 StepKind.Complete (complete_cut 0 (core_of self.old) self.old.store.limits.shard_target file) self.old self.new e) }
+        // Where a flush is due and no further shard can be registered, nothing is done.
+        ensures full { IsFull self.old.store → complete_cut 0 (core_of self.old) self.old.store.limits.shard_target file ≢ [] → IsErr result × IfErr result (λ e. IsOtherFile self.old self.new file e ⊎ IsFullError self.old self.new e) }
         ensures unrecorded { OnErr result (self.new.store.records ≡ self.old.store.records) }
         ensures crash { CrashSafe self.old.store self.new.store }
     {
         self.recall_sound();
+        self.recall_invariant();
         self.complete_file_by(0, file)
     }
 

@@ -1,6 +1,6 @@
 //! Registration of xorbs, with its entries.
 
-ghost use Rattle.std.specs.Prelude.{◌≡◌, ◌≢◌, ◌≤◌, ◌+◌, ◌++◌, ◌∷◌, [], true, None, Some, IfErr, IfOk, IsOkUnless, OnErr, OnOk, is_some, length, map, option_map, vec_capacity, vec_len};
+ghost use Rattle.std.specs.Prelude.{◌≡◌, ◌≢◌, ◌≤◌, ◌+◌, ◌++◌, ◌∷◌, [], true, None, Some, IfErr, IfOk, IsErr, IsOkUnless, OnErr, OnOk, is_some, length, map, option_map, vec_capacity, vec_len};
 ghost use Rattle.xet_dedup_queries.specs.Registering.{IsNewXorb};
 ghost use Rattle.xet_folder.specs.Xorbs.{IsListed, found};
 ghost use Rattle.xet_hash.specs.Hash.{sentinel};
@@ -9,7 +9,7 @@ ghost use Rattle.xet_history.specs.Core.{is_new};
 ghost use Rattle.xet_history.specs.History.{register_cut, register_entries};
 ghost use Rattle.xet_io.specs.Disk.{Files, bytes_at};
 ghost use Rattle.xet_store.specs.Recorded.{core_of, recorded_state};
-ghost use Rattle.xet_store.specs.Steps.{Refuses, RegisterRefuses, Registers, Steps};
+ghost use Rattle.xet_store.specs.Steps.{IsFullError, Refuses, RegisterRefuses, Registers, Steps};
 ghost use Rattle.xet_folder.specs.Changes.{GoesBy};
 ghost use Rattle.xet_folder.specs.Changes.Change.{Puts};
 ghost use Rattle.xet_folder.specs.Names.{xorb_path};
@@ -17,6 +17,7 @@ ghost use Rattle.xet_folder.specs.Puts.{IsSettled};
 ghost use Rattle.xet_shard_format.specs.RecordSizes.{xorb_record_size};
 ghost use Rattle.xet_store.specs.Changes.{ChangesFiles, Tries, cut_changes};
 ghost use Rattle.xet_store_disk.specs.Crash.{CrashSafe};
+ghost use Rattle.xet_store_disk.specs.Flushing.{IsFull};
 ghost use Rattle.xet_xorb.specs.Building.{built_of};
 ghost use Rattle.xet_xorb.specs.Raw.{raw_leaves, xorb_record};
 
@@ -53,12 +54,15 @@ impl<D: Disk> Store<D> {
         ensures tries { OnErr result (Tries self.old self.new (register_entries 0 (core_of self.old) self.old.store.limits.shard_target (raw_leaves xorb) next.now)) }
         ensures written { IfOk result (λ added. added ≡ true → self.old.store.tells ≡ true → bytes_at self.new.store.files (xorb_path self.old.store.folder (xorb_hash (raw_leaves xorb))) ≡ Some (built_of xorb true).serialized_data) }
         ensures refused { IfErr result (Refuses 0 StepKind.Register (register_cut 0 (core_of self.old) self.old.store.limits.shard_target (raw_leaves xorb)) self.old self.new) }
+        // Where a flush is due and no further shard can be registered, nothing is done.
+        ensures full { IsFull self.old.store → register_cut 0 (core_of self.old) self.old.store.limits.shard_target (raw_leaves xorb) ≢ [] → IsErr result × IfErr result (IsFullError self.old self.new) }
         ensures unlisted { OnErr result (self.new.store.xorbs ≡ self.old.store.xorbs) }
         ensures listed { OnOk result (IsListed self.new.store.xorbs (xorb_hash (raw_leaves xorb)) (raw_leaves xorb)) }
         ensures named { OnOk result (xorb_hash (raw_leaves xorb) ≢ sentinel) }
         ensures crash { CrashSafe self.old.store self.new.store }
     {
         self.recall_sound();
+        self.recall_invariant();
         self.register_xorb_by(0, xorb, next)
     }
 

@@ -1,6 +1,6 @@
 -- Reconstruction plans, and what they resolve to.
 use Rattle.std.proofs.Common.{◌≡◌, ◌⊎◌, inl, inr, ◌∙◌, ℕ, zero, suc, ◌+◌, ◌-◌, ◌<◌, ◌^◌, List, [], ◌∷◌, ◌++◌, map, take, drop, refl, sym, ap, subst, arith, append_assoc}
-use Rattle.std.proofs.lemmas.List.{map-append, length-map, append-nil, drop-map, take-map}
+use Rattle.std.proofs.lemmas.List.{map-append, length-map, drop-map, take-map}
 use Rattle.std.proofs.lemmas.List.Sums.{sum_by-append, sum_by-cons}
 use Rattle.std.specs.List.{sum_by}
 use Rattle.xet_shard_format.specs.declared.record.FileDataSequenceEntry.{FileDataSequenceEntry as Segment}
@@ -33,13 +33,6 @@ pub resolves_more : {X : Type 0} (P Q : List ℕ → List X → Type 0) (len : X
     → (plan : List Segment) (out : List X) → Resolves P len plan out → Resolves Q len plan out
 resolves_more P Q len all [] out j = j
 resolves_more P Q len all (s ∷ ss) out (xs, rest, has, lies, parts, more) = (xs, rest, all s.xorb_hash xs has, lies, parts, resolves_more P Q len all ss rest more)
-
--- one segment more
-pub resolves_push : {X : Type 0} (P : List ℕ → List X → Type 0) (len : X → ℕ) (plan : List Segment) (s : Segment) (out xs : List X)
-    → Resolves P len plan out → P s.xorb_hash xs → LiesIn len s xs → Resolves P len (plan ++ s ∷ []) (out ++ part s xs)
-resolves_push P len [] s out xs none has lies = (xs, [], has, lies, ap (λ (t : List _). t ++ part s xs) none ∙ sym (append-nil (part s xs)), refl)
-resolves_push P len (t ∷ ts) s out xs (ys, rest, here, in_ys, parts, more) has lies =
-    (ys, rest ++ part s xs, here, in_ys, ap (λ (l : List _). l ++ part s xs) parts ∙ append_assoc (part t ys) rest (part s xs), resolves_push P len ts s rest xs more has lies)
 
 -- What a plan resolves to in one view of the xorbs comes from what it resolves to in another.
 pub resolves_map : {X Y : Type 0} (f : X → Y) (P : List ℕ → List Y → Type 0) (Q : List ℕ → List X → Type 0) (len : Y → ℕ)

@@ -1,11 +1,8 @@
 //! Adding xorbs and files to a session.
 
-ghost use Rattle.std.specs.Prelude.{◌≡◌, ◌≢◌, ◌++◌, true, ◌↔◌, ◌≤◌, ◌<◌, ◌+◌, ◌*◌, ◌^◌, ◌∷◌, [], length, map, OnOk, OnErr, IfOk, IfErr, IsOkUnless, IsSome, IsTrue, None, Some};
-ghost use Rattle.std.specs.List.{AllByRecursion};
-ghost use Rattle.xet_hash.specs.Merkle.{chunk_hash, xorb_hash};
+ghost use Rattle.std.specs.Prelude.{◌≡◌, ◌≢◌, ◌++◌, true, ◌↔◌, ◌<◌, ◌+◌, ◌*◌, ◌^◌, ◌∷◌, [], length, OnOk, OnErr, IfErr, IsOkUnless, IsSome, IsTrue, None, Some};
 ghost use Rattle.xet_shard.specs.Held.{held_size};
 ghost use Rattle.xet_shard_format.specs.Records.{file_record_hash};
-ghost use Rattle.xet_xorb_chunk.specs.Chunks.{bytes_of_chunk, chunk_leaf, total};
 ghost use Rattle.xet_codec.specs.Stops.{HasDiskReason};
 ghost use Rattle.indexmap.specs.IndexMap.{spare};
 ghost use Rattle.xet_dedup.specs.Records.{xorb_record};
@@ -21,7 +18,7 @@ ghost use Rattle.xet_shard_file.specs.Names.{IsHash, temp_name};
 ghost use Rattle.xet_store_disk.specs.Cleaning.{Adds, IsDurable, Keeps};
 ghost use Rattle.xet_store_disk.specs.Flushing.{KeepsOtherNames};
 ghost use Rattle.xet_store_disk.specs.Store.{IsNewFile};
-ghost use Rattle.xet_store_disk.specs.Tables.{tables_of, with_leaves, with_record, with_xorb};
+ghost use Rattle.xet_store_disk.specs.Tables.{tables_of, with_leaves, with_record};
 
 use crate::due_xorb::DueXorb;
 use crate::store::Store;
@@ -32,43 +29,8 @@ use xet_io::Disk;
 use xet_shard::MDBInMemoryShard;
 use xet_shard_file::recall_bytes;
 use xet_shard_format::{MDBFileInfo, MDBXorbInfo};
-use xet_xorb::RawXorbData;
-use xet_xorb_chunk::{Chunk, chunk_leaves};
 
 impl<D: Disk> Store<D> {
-    /// Stores these chunks as a xorb and lists it, unless a xorb of its hash is listed, and returns the hash.
-    /// The error is `Io(Disk)`, which is returned only if the disk failed, or `OutOfMemory`, which is also
-    /// returned if a xorb of this hash is listed with other chunks, if the hash is the sentinel, or if the
-    /// shard of what is pending would be too long.
-    pub(crate) fn add_xorb(&mut self, chunks: &[Chunk]) -> Result<MerkleHash, StoreError>
-        requires some { 0 < length chunks.now }
-        requires digests { AllByRecursion (λ c. c.hash ≡ chunk_hash c.bytes) chunks.now }
-        requires small { AllByRecursion (λ c. length c.bytes < 2 ^ 23) chunks.now }
-        requires count { length chunks.now ≤ 65536 }
-        requires bytes { total chunks.now ≤ 2 ^ 30 }
-        ensures keeps { Keeps self.old self.new }
-        ensures records { self.new.records ≡ self.old.records }
-        ensures listed { IfOk result (λ h. (h ≡ xorb_hash (map chunk_leaf chunks.now)) × IsListed self.new.xorbs h (map chunk_leaf chunks.now)) }
-        ensures shards { self.new.shards ≡ self.old.shards }
-        ensures stores { OnOk result (tables_of self.new ≡ with_xorb (tables_of self.old) (map bytes_of_chunk chunks.now)) }
-        ensures kept { OnErr result (tables_of self.new ≡ tables_of self.old) }
-        ensures reason { IfErr result (HasDiskReason self.old.faults self.new.faults) }
-    {
-        let leaves = chunk_leaves(self.alloc, chunks)?;
-        let raw = RawXorbData::from_chunks(self.alloc, chunks, Vec::new(self.alloc))?;
-        let hash = raw.hash();
-        if let Some(listed) = self.xorbs.get(&hash) {
-            if listed.as_slice() != leaves.as_slice() {
-                return Err(StoreError::OutOfMemory);
-            }
-            return Ok(hash);
-        }
-        let buffer = self.take_buffer();
-        let due = DueXorb::new(self.alloc, buffer, raw)?;
-        self.store_xorb(due)?;
-        Ok(hash)
-    }
-
     /// Takes the memory for one more xorb with this number of chunks. The only error is `OutOfMemory`. The store is
     /// unchanged in either case.
     pub fn reserve_xorb(&mut self, chunks: usize) -> Result<(), StoreError>

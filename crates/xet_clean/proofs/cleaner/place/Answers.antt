@@ -1,4 +1,4 @@
-use Rattle.std.proofs.Common.{◌≡◌, ◌∙◌, ℕ, List, [], ◌++◌, length, map, ap, append-nil, refl, subst, sym, arith, eqb-true}
+use Rattle.std.proofs.Common.{◌≡◌, ◌∙◌, List, [], ◌++◌, length, map, ap, append-nil, refl, subst, sym, arith, eqb-true}
 use Rattle.std.proofs.lemmas.List.{length-map, nil_from_length}
 use Rattle.xet_dedup.specs.theorems.Adding.{placed_calls, stopped_calls}
 use Rattle.xet_store.specs.Interface.{IsErrorSince}
@@ -6,8 +6,7 @@ use Rattle.xet_store.specs.theorems.Following.{extends_asking}
 use Rattle.xet_xorb_chunk.specs.Chunks.{chunk_leaf}
 use Rattle.xet_store.specs.theorems.Following.{asking_nothing}
 use Rattle.xet_xorb_chunk.specs.declared.chunk.Chunk.{Chunk}
-use Rattle.xet_clean.specs.Cleaner.{StopsInBatch}
-use Rattle.xet_clean.proofs.Batches.{batch_error, batch_of, some_chunks, stops_in_batch}
+use Rattle.xet_clean.proofs.Batches.{batch_error, batch_nothing, batch_of, some_chunks, stops_in_batch}
 use Rattle.xet_clean.proofs.cleaner.place.Goals as goal
 
 pub returns-in-Ok-clause-placed : goal.returns-in-Ok-clause-placed
@@ -42,8 +41,10 @@ returns-in-Err-clause-stopped g c =
     let new = g.S.Stepping.holder c.process_chunks.new.self.interface.steps in
     let p = c.args.deduper.now.plan in
     let leaves = map chunk_leaf c.args.chunks.now in
-    subst (λ (n : ℕ). StopsInBatch leaves n old new) (length-map p.block chunk_leaf)
-    (stops_in_batch leaves old new (omega (arith, c.process_chunks.ensures.queries refl, length-map c.args.chunks.now chunk_leaf)) (map chunk_leaf p.block)
+    stops_in_batch leaves old new (omega (arith, c.process_chunks.ensures.queries refl, length-map c.args.chunks.now chunk_leaf)) (map chunk_leaf p.block)
     (stopped_calls _ _ _ _ _ c.args.chunks.now c.args.deduper.now.interface p _ c.process_chunks.new.self.interface c.recall_invariant.ensures.range c.requires.chunks c.in-Err.ensures.stopped)
     (extends_asking (λ a. g.S.Stepping.holder a.steps) _ _ _ c.args.deduper.now.interface c.process_chunks.new.self.interface c.process_chunks.ensures.extends)
-    (some_chunks c.args.chunks.now _ c.is_empty.ensures c.if-is_empty.false))
+    (some_chunks c.args.chunks.now _ c.is_empty.ensures c.if-is_empty.false)
+
+pub returns-then-is_empty-clause-placed : goal.returns-then-is_empty-clause-placed
+returns-then-is_empty-clause-placed g c = batch_nothing (map chunk_leaf c.args.chunks.now) (map chunk_leaf c.args.deduper.now.plan.block) (g.S.Stepping.holder c.args.deduper.now.interface.steps)

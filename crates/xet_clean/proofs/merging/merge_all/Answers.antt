@@ -63,7 +63,7 @@ returns-in-Ok-clause-refused g c = λ ps may.
     let begins = merging_begins h range ps c.args.parts.items _ _ c.requires.some c.remove-whole.ensures.value c.remove-whole.ensures.by_index.2 c.requires.count may in
     let is = c.in-Ok.ensures.merged ps h begins in
     IfErr-weaker c.end.result (IsUnclosed (RegistersAtMost w.aggregate []) w.aggregate [] mid new) (IsUnmerged ps h new)
-    (λ e unclosed. unmerged ps [] h mid w.cleaned.infos.items w.cleaned.choices.items w.cleaned.metrics w.aggregate is (RegistersAtMost w.aggregate []) (last_closes w.aggregate) [] new e unclosed) c.end.ensures.refused
+    (λ e unclosed. unmerged ps [] h mid w.cleaned.infos.items w.cleaned.choices.items w.cleaned.metrics w.aggregate is (RegistersAtMost w.aggregate []) [] (λ calls are. (last_closes w.aggregate calls are, are)) new e unclosed) c.end.ensures.refused
 
 pub returns-in-Err-clause-few : goal.returns-in-Err-clause-few
 returns-in-Err-clause-few g c =

@@ -1,10 +1,10 @@
-use Rattle.std.proofs.Common.{◌≡◌, ◌∙◌, [], List, length, ap, subst, sym, arith}
+use Rattle.std.proofs.Common.{◌≡◌, ◌∙◌, [], List, length, map, ap, subst, sym, arith}
 use Rattle.std.proofs.lemmas.List.{nil_from_length}
-use Rattle.std.specs.List.{AllByRecursion}
 use Rattle.std.specs.Vec.Iter.{into_iter_items}
 use Rattle.xet_base.specs.theorems.Exits.{exit_with}
-use Rattle.xet_dedup_queries.specs.Counting.{HasNext}
 use Rattle.xet_store.specs.theorems.Following.{follows_nothing, follows_then}
+use Rattle.xet_xorb_chunk.specs.Chunks.{chunk_leaf}
+use Rattle.xet_clean.specs.Closing.{RegistersFull}
 use Rattle.xet_clean.specs.Merging.{IsUnmerged}
 use Rattle.xet_clean.specs.declared.working.Working.{Working}
 use Rattle.xet_clean.specs.internal.Merging.{IsMerging}
@@ -51,7 +51,8 @@ returns-in_err-merge-clause-refused g c = λ ps start was.
     let now = g.S.Stepping.holder c.loop-part.steps in
     let new = g.S.Stepping.holder c.merge.new.steps in
     exit_with (IsUnmerged ps start new) _ _ c.from_residual.ensures.1
-    (unmerged ps _ start now _ _ _ _ (c.loop-part.invariant.merging ps start was) (AllByRecursion HasNext) (λ calls all. ([], closes_none calls all)) _ new _ c.in_err-merge.ensures.refused)
+    (unmerged ps _ start now _ _ _ _ (c.loop-part.invariant.merging ps start was) (RegistersFull c.loop-part.whole.aggregate (map chunk_leaf c.in-Some.part.aggregate.chunks)) (map chunk_leaf c.in-Some.part.aggregate.chunks)
+    (λ calls are. (([], closes_none calls are.1), are.0)) new _ c.in_err-merge.ensures.refused)
 
 pub loop-part-preserved : goal.loop-part-preserved
 loop-part-preserved g c =

@@ -27,7 +27,7 @@ keep-requires-clause-working g c =
     let d = c.index-sources-at.result in
     let t = c.clean_source-back.new.source in
     let known = c.clean_source-back.ensures in
-    added_of tells left faults c.args.policy.now (λ (f : FinishedFile). f.info) (λ (f : FinishedFile). f.metrics) (λ (f : FinishedFile). f.choices) (λ (f : FinishedFile). f.rest) c.args.sources.now c.sources.sources c.sources.at start h w.cleaned.infos.items w.cleaned.choices.items w.cleaned.metrics w.aggregate c.sources.invariant.loop (omega arith) c.requires.count (subst AreInRange c.limits.ensures c.recall_invariant.ensures) d t h' c.clean_source-back.result.1 (record { finished = known.finished; few = known.few; follows = known.follows; frame = known.frame; refused = known.refused })
+    added_of tells left faults c.args.policy.now (λ (f : FinishedFile). f.info) (λ (f : FinishedFile). f.metrics) (λ (f : FinishedFile). f.choices) (λ (f : FinishedFile). f.rest) c.args.sources.now c.sources.sources c.sources.at start h w.cleaned.infos.items w.cleaned.choices.items w.cleaned.metrics w.aggregate c.sources.invariant.loop (omega arith) c.requires.count (subst AreInRange c.limits.ensures c.recall_invariant.ensures) d t h' c.clean_source-back.result.1 (record { finished = known.finished; few = known.few; own = known.own; follows = known.follows; frame = known.frame; refused = known.refused })
 
 pub returns-in-Err-clause-follows : goal.returns-in-Err-clause-follows
 returns-in-Err-clause-follows g c =
@@ -39,7 +39,7 @@ returns-in-Err-clause-follows g c =
     let d = c.index-sources-at.result in
     let t = c.clean_source-back.new.source in
     let known = c.clean_source-back.ensures in
-    (turn_stops tells left faults c.args.policy.now (λ (f : FinishedFile). f.info) (λ (f : FinishedFile). f.metrics) (λ (f : FinishedFile). f.choices) (λ (f : FinishedFile). f.rest) c.args.sources.now c.sources.sources c.sources.at start h w.cleaned.infos.items w.cleaned.choices.items w.cleaned.metrics w.aggregate c.sources.invariant.loop (omega arith) d t h' (g.S.Stepping.holder c.keep.new.steps) c.clean_source-back.result.1 c.keep.result c.in-Err.error (record { finished = known.finished; few = known.few; follows = known.follows; frame = known.frame; refused = known.refused }) (record { few = c.keep.ensures.few; refused = c.keep.ensures.refused; kept = c.keep.ensures.kept }) (cc c.in-Err.is)).follows
+    (turn_stops tells left faults c.args.policy.now (λ (f : FinishedFile). f.info) (λ (f : FinishedFile). f.metrics) (λ (f : FinishedFile). f.choices) (λ (f : FinishedFile). f.rest) c.args.sources.now c.sources.sources c.sources.at start h w.cleaned.infos.items w.cleaned.choices.items w.cleaned.metrics w.aggregate c.sources.invariant.loop (omega arith) d t h' (g.S.Stepping.holder c.keep.new.steps) c.clean_source-back.result.1 c.keep.result c.in-Err.error (record { finished = known.finished; few = known.few; own = known.own; follows = known.follows; frame = known.frame; refused = known.refused }) (record { few = c.keep.ensures.few; refused = c.keep.ensures.refused; kept = c.keep.ensures.kept }) (cc c.in-Err.is)).follows
 
 pub returns-in-Err-clause-bound : goal.returns-in-Err-clause-bound
 returns-in-Err-clause-bound g c =
@@ -51,7 +51,7 @@ returns-in-Err-clause-bound g c =
     let d = c.index-sources-at.result in
     let t = c.clean_source-back.new.source in
     let known = c.clean_source-back.ensures in
-    (turn_stops tells left faults c.args.policy.now (λ (f : FinishedFile). f.info) (λ (f : FinishedFile). f.metrics) (λ (f : FinishedFile). f.choices) (λ (f : FinishedFile). f.rest) c.args.sources.now c.sources.sources c.sources.at start h w.cleaned.infos.items w.cleaned.choices.items w.cleaned.metrics w.aggregate c.sources.invariant.loop (omega arith) d t h' (g.S.Stepping.holder c.keep.new.steps) c.clean_source-back.result.1 c.keep.result c.in-Err.error (record { finished = known.finished; few = known.few; follows = known.follows; frame = known.frame; refused = known.refused }) (record { few = c.keep.ensures.few; refused = c.keep.ensures.refused; kept = c.keep.ensures.kept }) (cc c.in-Err.is)).short
+    (turn_stops tells left faults c.args.policy.now (λ (f : FinishedFile). f.info) (λ (f : FinishedFile). f.metrics) (λ (f : FinishedFile). f.choices) (λ (f : FinishedFile). f.rest) c.args.sources.now c.sources.sources c.sources.at start h w.cleaned.infos.items w.cleaned.choices.items w.cleaned.metrics w.aggregate c.sources.invariant.loop (omega arith) d t h' (g.S.Stepping.holder c.keep.new.steps) c.clean_source-back.result.1 c.keep.result c.in-Err.error (record { finished = known.finished; few = known.few; own = known.own; follows = known.follows; frame = known.frame; refused = known.refused }) (record { few = c.keep.ensures.few; refused = c.keep.ensures.refused; kept = c.keep.ensures.kept }) (cc c.in-Err.is)).short
 
 pub returns-in-Err-clause-sources_tell : goal.returns-in-Err-clause-sources_tell
 returns-in-Err-clause-sources_tell g c =
@@ -63,7 +63,7 @@ returns-in-Err-clause-sources_tell g c =
     let d = c.index-sources-at.result in
     let t = c.clean_source-back.new.source in
     let known = c.clean_source-back.ensures in
-    (turn_stops tells left faults c.args.policy.now (λ (f : FinishedFile). f.info) (λ (f : FinishedFile). f.metrics) (λ (f : FinishedFile). f.choices) (λ (f : FinishedFile). f.rest) c.args.sources.now c.sources.sources c.sources.at start h w.cleaned.infos.items w.cleaned.choices.items w.cleaned.metrics w.aggregate c.sources.invariant.loop (omega arith) d t h' (g.S.Stepping.holder c.keep.new.steps) c.clean_source-back.result.1 c.keep.result c.in-Err.error (record { finished = known.finished; few = known.few; follows = known.follows; frame = known.frame; refused = known.refused }) (record { few = c.keep.ensures.few; refused = c.keep.ensures.refused; kept = c.keep.ensures.kept }) (cc c.in-Err.is)).tell
+    (turn_stops tells left faults c.args.policy.now (λ (f : FinishedFile). f.info) (λ (f : FinishedFile). f.metrics) (λ (f : FinishedFile). f.choices) (λ (f : FinishedFile). f.rest) c.args.sources.now c.sources.sources c.sources.at start h w.cleaned.infos.items w.cleaned.choices.items w.cleaned.metrics w.aggregate c.sources.invariant.loop (omega arith) d t h' (g.S.Stepping.holder c.keep.new.steps) c.clean_source-back.result.1 c.keep.result c.in-Err.error (record { finished = known.finished; few = known.few; own = known.own; follows = known.follows; frame = known.frame; refused = known.refused }) (record { few = c.keep.ensures.few; refused = c.keep.ensures.refused; kept = c.keep.ensures.kept }) (cc c.in-Err.is)).tell
 
 pub returns-in-Err-clause-sources_taken : goal.returns-in-Err-clause-sources_taken
 returns-in-Err-clause-sources_taken g c =
@@ -75,7 +75,7 @@ returns-in-Err-clause-sources_taken g c =
     let d = c.index-sources-at.result in
     let t = c.clean_source-back.new.source in
     let known = c.clean_source-back.ensures in
-    (turn_stops tells left faults c.args.policy.now (λ (f : FinishedFile). f.info) (λ (f : FinishedFile). f.metrics) (λ (f : FinishedFile). f.choices) (λ (f : FinishedFile). f.rest) c.args.sources.now c.sources.sources c.sources.at start h w.cleaned.infos.items w.cleaned.choices.items w.cleaned.metrics w.aggregate c.sources.invariant.loop (omega arith) d t h' (g.S.Stepping.holder c.keep.new.steps) c.clean_source-back.result.1 c.keep.result c.in-Err.error (record { finished = known.finished; few = known.few; follows = known.follows; frame = known.frame; refused = known.refused }) (record { few = c.keep.ensures.few; refused = c.keep.ensures.refused; kept = c.keep.ensures.kept }) (cc c.in-Err.is)).taken
+    (turn_stops tells left faults c.args.policy.now (λ (f : FinishedFile). f.info) (λ (f : FinishedFile). f.metrics) (λ (f : FinishedFile). f.choices) (λ (f : FinishedFile). f.rest) c.args.sources.now c.sources.sources c.sources.at start h w.cleaned.infos.items w.cleaned.choices.items w.cleaned.metrics w.aggregate c.sources.invariant.loop (omega arith) d t h' (g.S.Stepping.holder c.keep.new.steps) c.clean_source-back.result.1 c.keep.result c.in-Err.error (record { finished = known.finished; few = known.few; own = known.own; follows = known.follows; frame = known.frame; refused = known.refused }) (record { few = c.keep.ensures.few; refused = c.keep.ensures.refused; kept = c.keep.ensures.kept }) (cc c.in-Err.is)).taken
 
 pub returns-in-Err-clause-sources_later : goal.returns-in-Err-clause-sources_later
 returns-in-Err-clause-sources_later g c =
@@ -87,7 +87,7 @@ returns-in-Err-clause-sources_later g c =
     let d = c.index-sources-at.result in
     let t = c.clean_source-back.new.source in
     let known = c.clean_source-back.ensures in
-    (turn_stops tells left faults c.args.policy.now (λ (f : FinishedFile). f.info) (λ (f : FinishedFile). f.metrics) (λ (f : FinishedFile). f.choices) (λ (f : FinishedFile). f.rest) c.args.sources.now c.sources.sources c.sources.at start h w.cleaned.infos.items w.cleaned.choices.items w.cleaned.metrics w.aggregate c.sources.invariant.loop (omega arith) d t h' (g.S.Stepping.holder c.keep.new.steps) c.clean_source-back.result.1 c.keep.result c.in-Err.error (record { finished = known.finished; few = known.few; follows = known.follows; frame = known.frame; refused = known.refused }) (record { few = c.keep.ensures.few; refused = c.keep.ensures.refused; kept = c.keep.ensures.kept }) (cc c.in-Err.is)).later
+    (turn_stops tells left faults c.args.policy.now (λ (f : FinishedFile). f.info) (λ (f : FinishedFile). f.metrics) (λ (f : FinishedFile). f.choices) (λ (f : FinishedFile). f.rest) c.args.sources.now c.sources.sources c.sources.at start h w.cleaned.infos.items w.cleaned.choices.items w.cleaned.metrics w.aggregate c.sources.invariant.loop (omega arith) d t h' (g.S.Stepping.holder c.keep.new.steps) c.clean_source-back.result.1 c.keep.result c.in-Err.error (record { finished = known.finished; few = known.few; own = known.own; follows = known.follows; frame = known.frame; refused = known.refused }) (record { few = c.keep.ensures.few; refused = c.keep.ensures.refused; kept = c.keep.ensures.kept }) (cc c.in-Err.is)).later
 
 pub returns-in-Err-clause-refused : goal.returns-in-Err-clause-refused
 returns-in-Err-clause-refused g c =
@@ -99,7 +99,7 @@ returns-in-Err-clause-refused g c =
     let d = c.index-sources-at.result in
     let t = c.clean_source-back.new.source in
     let known = c.clean_source-back.ensures in
-    (turn_stops tells left faults c.args.policy.now (λ (f : FinishedFile). f.info) (λ (f : FinishedFile). f.metrics) (λ (f : FinishedFile). f.choices) (λ (f : FinishedFile). f.rest) c.args.sources.now c.sources.sources c.sources.at start h w.cleaned.infos.items w.cleaned.choices.items w.cleaned.metrics w.aggregate c.sources.invariant.loop (omega arith) d t h' (g.S.Stepping.holder c.keep.new.steps) c.clean_source-back.result.1 c.keep.result c.in-Err.error (record { finished = known.finished; few = known.few; follows = known.follows; frame = known.frame; refused = known.refused }) (record { few = c.keep.ensures.few; refused = c.keep.ensures.refused; kept = c.keep.ensures.kept }) (cc c.in-Err.is)).reason
+    (turn_stops tells left faults c.args.policy.now (λ (f : FinishedFile). f.info) (λ (f : FinishedFile). f.metrics) (λ (f : FinishedFile). f.choices) (λ (f : FinishedFile). f.rest) c.args.sources.now c.sources.sources c.sources.at start h w.cleaned.infos.items w.cleaned.choices.items w.cleaned.metrics w.aggregate c.sources.invariant.loop (omega arith) d t h' (g.S.Stepping.holder c.keep.new.steps) c.clean_source-back.result.1 c.keep.result c.in-Err.error (record { finished = known.finished; few = known.few; own = known.own; follows = known.follows; frame = known.frame; refused = known.refused }) (record { few = c.keep.ensures.few; refused = c.keep.ensures.refused; kept = c.keep.ensures.kept }) (cc c.in-Err.is)).reason
 
 pub sources-preserved : goal.sources-preserved
 sources-preserved g c =
@@ -114,7 +114,7 @@ sources-preserved g c =
     let before = c.sources.invariant in
     record {
       loop = turn_goes_on tells left faults c.args.policy.now (λ (f : FinishedFile). f.info) (λ (f : FinishedFile). f.metrics) (λ (f : FinishedFile). f.choices) (λ (f : FinishedFile). f.rest) c.args.sources.now c.sources.sources c.sources.at start h w.cleaned.infos.items w.cleaned.choices.items w.cleaned.metrics w.aggregate c.sources.invariant.loop (omega arith) c.requires.count (subst AreInRange c.limits.ensures c.recall_invariant.ensures) d t h' (g.S.Stepping.holder c.keep.new.steps) c.clean_source-back.result.1 c.keep.result c.in_default.field-0 c.keep.new.working.cleaned.infos.items c.keep.new.working.cleaned.choices.items c.keep.new.working.cleaned.metrics c.keep.new.working.aggregate
-          (record { finished = known.finished; few = known.few; follows = known.follows; frame = known.frame; refused = known.refused }) (record { few = c.keep.ensures.few; refused = c.keep.ensures.refused; kept = c.keep.ensures.kept }) (cc c.in_default.is) c.keep.ensures.working;
+          (record { finished = known.finished; few = known.few; own = known.own; follows = known.follows; frame = known.frame; refused = known.refused }) (record { few = c.keep.ensures.few; refused = c.keep.ensures.refused; kept = c.keep.ensures.kept }) (cc c.in_default.is) c.keep.ensures.working;
       infos_count = omega (arith, c.in_default.ensures.grown.0, before.infos_count);
       choices_count = omega (arith, c.in_default.ensures.grown.1, before.choices_count);
       infos_room = omega (arith, c.keep.ensures.room.0, before.infos_room);

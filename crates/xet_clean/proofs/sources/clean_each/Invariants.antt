@@ -1,4 +1,4 @@
-use Rattle.std.proofs.Common.{◌≡◌, ◌≤◌, ◌<◌, length}
+use Rattle.std.proofs.Common.{◌≡◌, ◌≤◌, length}
 use Rattle.std.specs.Vec.{vec_capacity, vec_len}
 use Rattle.xet_clean.proofs.Looping.{IsLoop}
 use Rattle.xet_clean.proofs.sources.clean_each.Given as goal

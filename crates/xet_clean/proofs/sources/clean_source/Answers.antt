@@ -3,11 +3,11 @@ use Rattle.std.proofs.lemmas.Result.{IfErr-weaker, IfOk-weaker, on_err_weaker}
 use Rattle.xet_store.specs.Interface.{IsErrorSince}
 use Rattle.xet_store.specs.Holders.{Follows, FollowsAsking}
 use Rattle.xet_store.specs.theorems.Following.{asking_nothing, asking_then}
-use Rattle.xet_clean.specs.Planning.{IsFew, IsFinished}
+use Rattle.xet_clean.specs.Planning.{IsFew, IsFinished, RegistersOnly}
 use Rattle.xet_clean.specs.Policies.{sha256_by}
 use Rattle.xet_clean.specs.Sources.{IsSourceError, Takes}
 use Rattle.xet_clean.specs.theorems.Closing.{error_earlier}
-use Rattle.xet_clean.proofs.Reading.{few_nothing, source_error, takes_nothing, takes_some}
+use Rattle.xet_clean.proofs.Reading.{few_nothing, only_nothing, source_error, takes_all, takes_nothing, takes_some}
 use Rattle.xet_clean.proofs.sources.clean_source.Goals as goal
 
 pub returns-in-Ok-read_into-clause-finished : goal.returns-in-Ok-read_into-clause-finished
@@ -76,3 +76,29 @@ pub returns-in-Err-clause-follows : goal.returns-in-Err-clause-follows
 returns-in-Err-clause-follows g c =
     let old = g.S.Stepping.holder c.args.asking.steps in
     subst (λ a. FollowsAsking old (g.S.Stepping.holder a.steps)) (sym c.in-Err.ensures.back) (asking_nothing old)
+
+pub returns-in-Ok-read_into-clause-own : goal.returns-in-Ok-read_into-clause-own
+returns-in-Ok-read_into-clause-own g c =
+    let r = c.finish.result in
+    let tells = g.R.Source.tells c.args.source.now in
+    let left = g.R.Source.left c.args.source.now in
+    let rest = g.R.Source.left c.read_into.new.source in
+    let now = g.S.Stepping.holder r.0.steps in
+    let read = c.in-Ok-read_into.ensures.cleaning in
+    let start = c.read_into.ensures.same.0 ∙ c.in-Ok.ensures.same.1 in
+    on_err_weaker r.1
+    (λ own told. subst (RegistersOnly (g.S.Stepping.holder c.args.asking.steps) now) (sym (takes_all tells left rest read.0 read.1 told)) (subst (λ a. RegistersOnly (g.S.Stepping.holder a.steps) now read.0) start own))
+    (c.finish.ensures.own read.0 read.2)
+
+pub returns-in-Err-clause-own : goal.returns-in-Err-clause-own
+returns-in-Err-clause-own g c =
+    let old = g.S.Stepping.holder c.args.asking.steps in
+    let left = g.R.Source.left c.args.source.now in
+    λ told. subst (λ a. RegistersOnly old (g.S.Stepping.holder a.steps) left) (sym c.in-Err.ensures.back) (only_nothing old left)
+
+pub returns-in-Err-read_into-clause-own : goal.returns-in-Err-read_into-clause-own
+returns-in-Err-read_into-clause-own g c =
+    let now = g.S.Stepping.holder c.read_into.new.cleaner.deduper.interface.steps in
+    let left = g.R.Source.left c.args.source.now in
+    let start = c.read_into.ensures.same.0 ∙ c.in-Ok.ensures.same.1 in
+    λ told. subst (λ a. RegistersOnly (g.S.Stepping.holder c.args.asking.steps) (g.S.Stepping.holder a.steps) left) (sym c.into_asking.ensures) (subst (λ a. RegistersOnly (g.S.Stepping.holder a.steps) now left) start (c.in-Err-read_into.ensures.own told))

@@ -5,7 +5,8 @@ use Rattle.xet_store.specs.theorems.Following.{asking_nothing, asking_then}
 use Rattle.xet_clean.specs.Errors.{IsCleanerError}
 use Rattle.xet_clean.specs.Sources.{IsSourceError}
 use Rattle.xet_clean.proofs.FileCalls.{same_limits}
-use Rattle.xet_clean.proofs.Cleaning.{few_with, on_err}
+use Rattle.xet_clean.specs.Planning.{RegistersOnly}
+use Rattle.xet_clean.proofs.Cleaning.{few_with, on_err, only_with}
 use Rattle.xet_clean.proofs.Policies.{if_computed}
 use Rattle.xet_clean.proofs.Reading.{cleaner_error, takes_lost, takes_next, takes_nothing}
 use Rattle.xet_clean.proofs.sources.read_into.Goals as goal
@@ -95,3 +96,20 @@ loop-block-smaller g c =
       length-append i.read.0 block,
       c.in_ok-block.ensures.some c.if-is_last.false,
     )
+
+pub returns-in_err-block-clause-own : goal.returns-in_err-block-clause-own
+returns-in_err-block-clause-own g c =
+    let i = c.loop-block.invariant in
+    let d = c.loop-block.cleaner.deduper in
+    on_err c.from_residual.result
+    (λ told. subst (RegistersOnly (g.S.Stepping.holder d.start.value.steps) (g.S.Stepping.holder d.interface.steps)) (sym (i.read.1.taken told)) (only_with _ _ _ _ _ _ _ _ i.read.2 (g.R.Source.left c.loop-block.source)))
+
+pub returns-in_err-add_block-clause-own : goal.returns-in_err-add_block-clause-own
+returns-in_err-add_block-clause-own g c =
+    let i = c.loop-block.invariant in
+    let block = c.in_ok-block.block in
+    let d = c.add_block.new.cleaner.deduper in
+    let takes =
+    takes_next c.in_ok-block.is_last _ _ (g.R.Source.left c.args.source.now) (g.R.Source.left c.loop-block.source) (g.R.Source.left c.read.new.source) i.read.0 block i.tells i.read.1 c.in_ok-block.ensures.block in
+    on_err c.from_residual-in_err-add_block.result
+    (λ told. subst (RegistersOnly (g.S.Stepping.holder d.start.value.steps) (g.S.Stepping.holder d.interface.steps)) (sym (takes.taken told)) (c.in_err-add_block.ensures.own i.read.0 (g.R.Source.left c.read.new.source) i.read.2))

@@ -3,6 +3,7 @@ use Rattle.xet_cut.specs.declared.limits.LimitSettings.{LimitSettings}
 use Rattle.xet_store_disk.specs.Opening.{IsOpened}
 use Rattle.xet_store.specs.Recorded.{RecordedState}
 use Rattle.xet_program.specs.internal.Stops.{cleaning_store_causes}
+use Rattle.xet_program.proofs.Contents.{never_too_many}
 use Rattle.xet_program.proofs.Folder.{folder_cleaning, stop_refused, stops_cleaning}
 use Rattle.xet_program.specs.Tasks.{store_folder}
 use Rattle.xet_program.proofs.Listing.{contents_before, few_before, foreign_same, keeps_folder, keeps_listed, opens_before}
@@ -76,3 +77,7 @@ returns-in-Err-clause-stop g c =
 pub returns-in-Ok-clause-foreign : goal.returns-in-Ok-clause-foreign
 returns-in-Ok-clause-foreign g c =
     foreign_same (g.D.Disk.tells c.args.disk) _ _ _ _ _ _ c.in-Ok.ensures.opened c.clean_names-session.ensures.keeps c.into_disk-disk.ensures.files
+
+pub returns-in-Ok-clause-overfull : goal.returns-in-Ok-clause-overfull
+returns-in-Ok-clause-overfull g c = λ told many.
+    never_too_many _ _ _ _ (opens_before _ _ _ _ _ c.in-Ok.ensures.opened c.in-Ok.ensures.contents (few_before c.in-Ok.session _ c.clean_names-session.ensures.keeps c.recall_invariant.ensures) told) many

@@ -39,6 +39,7 @@ returns-in-Ok-clause-cleaned g c =
       flushed = c.recall_sound-in-Ok.ensures;
       recorded = c.recall_invariant-in-Ok.ensures;
       folder = c.requires.folder;
+      fresh = c.requires.fresh;
       fits = subst AreInRange c.limits.ensures c.recall_invariant.ensures;
       contents = c.requires.contents;
     } in

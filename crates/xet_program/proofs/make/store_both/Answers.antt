@@ -1,20 +1,45 @@
-use Rattle.std.proofs.Common.{◌≡◌, ◌≤◌, ◌∙◌, ◌∷◌, [], List, ℕ, Err, IfErr, IfOk, arith, length, refl, subst, ap}
+use Rattle.std.proofs.Common.{◌≡◌, ◌≤◌, ◌∙◌, ◌∷◌, [], List, ℕ, Err, IfErr, IfOk, OnOk, arith, length, refl, subst, sym, ap}
 use Rattle.std.proofs.lemmas.Result.{IfErr-at_err, IfErr-weaker, IfOk-at_ok}
 use Rattle.xet_cut.specs.Chunking.{chunking}
 use Rattle.xet_store_disk.specs.theorems.Keeping.{keeps_then}
 use Rattle.xet_program.specs.declared.ending.Stop.TheVariants as stop
 use Rattle.xet_program.specs.declared.make.ChunkCounts.{ChunkCounts}
 use Rattle.xet_program.specs.Making.{both_files, with_byte_inserted}
-use Rattle.xet_program.specs.internal.Made.{AddsXorbs, HasPlan}
+use Rattle.xet_program.specs.internal.Made.{AddsXorbs, FitsPending, HasPlan, Pends}
 use Rattle.xet_program.specs.internal.Stops.{IsStop, filing_causes}
-use Rattle.xet_program.proofs.MadeFiles.{default_allows, filing_more, first_of_both, if_on_ok, made_of, second_of_both}
-use Rattle.xet_program.proofs.Opened.{rose_after}
+use Rattle.xet_program.proofs.MadeFiles.{default_allows, filing_more, first_of_both, if_on_ok, inserted_length, made_of, second_of_both}
+use Rattle.xet_program.proofs.Opened.{on_ok_here, rose_after}
+use Rattle.xet_program.proofs.Uncut.{fits_first, fits_second}
+use Rattle.xet_program.proofs.Unflushed.{other_both}
 use Rattle.xet_program.proofs.make.store_both.Goals as goal
 
-pub store_one-session-requires-after_bounds : goal.store_one-session-requires-after_bounds
-store_one-session-requires-after_bounds g c = λ lives within.
+pub store_one-session-requires-clause-short : goal.store_one-session-requires-clause-short
+store_one-session-requires-clause-short g c = λ lives within.
     let same = ap length c.deref.ensures.value in
     default_allows c.args.session.store.limits (length c.deref.result.now) c.requires.limits (omega (arith, same, c.requires.short))
+
+pub store_one-session-requires-clause-room : goal.store_one-session-requires-clause-room
+store_one-session-requires-clause-room g c = λ lives within.
+    subst (λ (b : List ℕ). FitsPending c.args.session.store (b ∷ [])) (sym c.deref.ensures.value) (fits_first c.args.session.store c.args.bytes.items c.requires.limits c.requires.fresh c.requires.short)
+
+pub store_inserted-requires-clause-folder : goal.store_inserted-requires-clause-folder
+store_inserted-requires-clause-folder g c = λ κs met. c.store_one-session.ensures.keeps.folder ∙ c.requires.folder
+
+pub store_inserted-requires-clause-room : goal.store_inserted-requires-clause-room
+store_inserted-requires-clause-room g c = λ κs met.
+    let bytes = c.args.bytes.items in
+    let first = c.args.session.store in
+    let mid = c.store_one-session.result.0.store in
+    let pends = subst (λ (b : List ℕ). OnOk c.store_one-session.result.1 (Pends (b ∷ []) first mid)) c.deref.ensures.value c.store_one-session.ensures.pends in
+    fits_second first mid bytes (with_byte_inserted bytes) c.requires.limits (c.store_one-session.ensures.keeps.limits ∙ c.requires.limits) c.requires.fresh c.requires.short
+    (omega (arith, inserted_length bytes, c.requires.short)) (on_ok_here c.in-Ok.is pends)
+
+pub returns-in-Ok-clause-other : goal.returns-in-Ok-clause-other
+returns-in-Ok-clause-other g c = λ told.
+    let first = c.args.session.store in
+    let mid = c.store_one-session.result.0.store in
+    let keeps = c.store_one-session.ensures.keeps in
+    other_both first mid c.store_inserted.result.0.store c.store_inserted.result.1 keeps.opened (on_ok_here c.in-Ok.is (c.store_one-session.ensures.other told)) (c.store_inserted.ensures.other (keeps.tells ∙ told))
 
 pub store_inserted-requires-clause-limits : goal.store_inserted-requires-clause-limits
 store_inserted-requires-clause-limits g c = λ κs met. c.store_one-session.ensures.keeps.limits ∙ c.requires.limits
@@ -62,6 +87,7 @@ returns-in-Err g c =
     let given = subst (λ (b : List ℕ). IfErr c.store_one-session.result.1 (IsStop (filing_causes first mid (b ∷ [])))) c.deref.ensures.value c.store_one-session.ensures.stop in
     let cause = c.store_one-session.ensures.cause in
     record {
+      other = λ told. tt;
       made = tt;
       keeps = c.store_one-session.ensures.keeps;
       stop = filing_more first first mid few (both_files bytes) c.in-Err.stop refl refl (first_of_both bytes) (IfErr-at_err (IsStop (filing_causes first mid few)) c.in-Err.is given);

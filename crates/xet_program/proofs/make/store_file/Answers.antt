@@ -2,10 +2,12 @@ use Rattle.std.proofs.Common.{◌∙◌, arith, false, refl, subst}
 use Rattle.xet_cut.specs.declared.limits.LimitSettings.{LimitSettings}
 use Rattle.xet_store_disk.specs.Opening.{IsOpened}
 use Rattle.xet_program.specs.internal.Stops.{making_causes}
-use Rattle.xet_program.specs.Tasks.{store_folder}
+use Rattle.xet_program.specs.Tasks.{default_limits, store_folder}
+use Rattle.xet_program.proofs.Contents.{never_too_many}
 use Rattle.xet_program.proofs.Folder.{folder_making, never_seven, stop_refused, stops_making}
 use Rattle.xet_program.proofs.Held.{texts_of}
 use Rattle.xet_program.proofs.Listing.{contents_before, few_before, foreign_same, keeps_folder, keeps_listed, opens_before}
+use Rattle.xet_program.proofs.Unflushed.{none_stored_on}
 use Rattle.xet_program.proofs.make.store_file.Goals as goal
 
 pub returns-in-Ok-clause-made : goal.returns-in-Ok-clause-made
@@ -63,3 +65,15 @@ returns-in-Err-clause-stop g c =
     let same = c.in-Err.ensures.unpruned refl in
     stop_refused (making_causes tells c.args.now old new c.args.bytes.items) c.not_opened.result.1 tells old (g.D.Disk.files c.in-Err.refused.disk) c.args.now _ _ c.in-Err.refused.error c.in-Err.refused.name same c.in-Err.ensures.refused
     (folder_making tells c.args.now old new c.args.bytes.items) c.not_opened.ensures.stop
+
+pub returns-in-Ok-clause-stored : goal.returns-in-Ok-clause-stored
+returns-in-Ok-clause-stored g c = λ told.
+    let tells = g.D.Disk.tells c.args.disk in
+    let disk = g.D.Disk.files c.args.disk in
+    let opened = subst (λ (l : LimitSettings). IsOpened tells false disk store_folder l c.args.now c.in-Ok.session.store) c.default_limits.ensures c.in-Ok.ensures.opened in
+    none_stored_on tells disk _ default_limits c.args.now c.in-Ok.session.store c.store_both-session.result.0.store opened c.into_disk-disk.ensures.files c.store_both-session.result.1
+    (c.store_both-session.ensures.other (c.in-Ok.ensures.opened.same_tells ∙ told))
+
+pub returns-in-Ok-clause-overfull : goal.returns-in-Ok-clause-overfull
+returns-in-Ok-clause-overfull g c = λ told many.
+    never_too_many _ _ _ _ (opens_before _ _ _ _ _ c.in-Ok.ensures.opened c.in-Ok.ensures.contents (few_before c.in-Ok.session _ c.store_both-session.ensures.keeps c.recall_invariant.ensures) told) many

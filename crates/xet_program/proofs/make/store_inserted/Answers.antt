@@ -5,15 +5,24 @@ use Rattle.xet_store_disk.specs.theorems.Keeping.{keeps_nothing}
 use Rattle.xet_program.specs.declared.ending.Stop.TheVariants as stop
 use Rattle.xet_program.specs.declared.make.ChunkCounts.{ChunkCounts}
 use Rattle.xet_program.specs.Making.{with_byte_inserted}
-use Rattle.xet_program.specs.internal.Made.{HasPlan, counts_text}
+use Rattle.xet_program.specs.internal.Made.{FitsPending, HasPlan, counts_text}
 use Rattle.xet_program.specs.internal.Stops.{IsStop, filing_causes}
 use Rattle.xet_program.proofs.MadeFiles.{cause_of_counts, default_allows, inserted_length, inserted_of, stop_of_counts}
+use Rattle.xet_program.proofs.Unflushed.{answer_other}
 use Rattle.xet_program.proofs.make.store_inserted.Goals as goal
 
-pub store_one-session-requires-after_bounds : goal.store_one-session-requires-after_bounds
-store_one-session-requires-after_bounds g c = λ lives within.
+pub store_one-session-requires-clause-short : goal.store_one-session-requires-clause-short
+store_one-session-requires-clause-short g c = λ lives within.
     let same = ap length (c.deref.ensures.value ∙ c.in-Ok.ensures.inserted) in
     default_allows c.args.session.store.limits (length c.deref.result.now) c.requires.limits (omega (arith, same, inserted_length c.args.bytes.items, c.requires.short))
+
+pub store_one-session-requires-clause-room : goal.store_one-session-requires-clause-room
+store_one-session-requires-clause-room g c = λ lives within.
+    let same : c.deref.result.now ≡ with_byte_inserted c.args.bytes.items = c.deref.ensures.value ∙ c.in-Ok.ensures.inserted in
+    subst (λ (b : List ℕ). FitsPending c.args.session.store (b ∷ [])) (sym same) c.requires.room
+
+pub returns-in-Ok-clause-other : goal.returns-in-Ok-clause-other
+returns-in-Ok-clause-other g c = λ told. answer_other _ c.args.first _ c.store_one-session.result.1 c.answer_of-answer.result (c.store_one-session.ensures.other told) c.answer_of-answer.ensures.text
 
 pub returns-in-Ok-clause-made : goal.returns-in-Ok-clause-made
 returns-in-Ok-clause-made g c =
@@ -43,6 +52,7 @@ returns-in-Ok-clause-cause g c =
 pub returns-in-Err : goal.returns-in-Err
 returns-in-Err g c =
     let memory : c.in-Err.stop ≡ stop.OutOfMemory = c.in-Err.ensures.memory in record {
+      other = λ told. tt;
       made = tt;
       keeps = keeps_nothing c.args.session.store;
       stop = subst (IsStop (filing_causes c.args.session c.args.session (with_byte_inserted c.args.bytes.items ∷ []))) (sym memory) tt;

@@ -9,6 +9,7 @@ use Rattle.xet_program.specs.internal.Made.{AddsXorbs, AreCounted}
 use Rattle.xet_program.specs.internal.Stops.{IsStop, cleaning_causes}
 use Rattle.xet_program.proofs.Cleaned.{stop_of_files}
 use Rattle.xet_program.proofs.MadeFiles.{counted_one, filing_one, planned_one}
+use Rattle.xet_program.proofs.Unflushed.{other_one, pends_one}
 use Rattle.xet_program.proofs.make.store_one.Goals as goal
 
 pub returns-in-Ok-clause-counts : goal.returns-in-Ok-clause-counts
@@ -48,7 +49,25 @@ returns-in-Err g c =
       counts = tt;
       planned = tt;
       added = tt;
+      other = λ told. tt;
+      pends = tt;
       keeps = c.clean_sources-session.ensures.keeps;
-      stop = filing_one first s bytes c.in-Err.stop c.requires (stop_of_files (record { files = bytes ∷ []; ranges = [] }) after first s c.in-Err.stop stopped);
+      stop = filing_one first s bytes c.in-Err.stop c.requires.short (stop_of_files (record { files = bytes ∷ []; ranges = [] }) after first s c.in-Err.stop stopped);
       cause = record { later = cause.later; rose = λ is. let disk : c.in-Err.stop ≡ stop.Disk = cc is in cause.rose (c.in-Err.is ∙ ap Err disk) };
     }
+
+pub returns-in-Ok-clause-other : goal.returns-in-Ok-clause-other
+returns-in-Ok-clause-other g c = λ told.
+    let first = c.args.session in
+    let s = c.clean_sources-session.result.0 in
+    let bytes = c.args.bytes.now in
+    let given = subst (λ (b : List ℕ). IfOk c.clean_sources-session.result.1 (λ (x : Cleaned). AreCleaned (λ _. true) (λ f. f) (b ∷ []) first s x.infos.items)) c.new.ensures c.clean_sources-session.ensures.cleaned in
+    other_one bytes first s _ (IfOk-at_ok (λ (x : Cleaned). AreCleaned (λ _. true) (λ f. f) (bytes ∷ []) first s x.infos.items) c.in-Ok.is given) c.requires.room c.requires.folder told
+
+pub returns-in-Ok-clause-pends : goal.returns-in-Ok-clause-pends
+returns-in-Ok-clause-pends g c =
+    let first = c.args.session in
+    let s = c.clean_sources-session.result.0 in
+    let bytes = c.args.bytes.now in
+    let given = subst (λ (b : List ℕ). IfOk c.clean_sources-session.result.1 (λ (x : Cleaned). AreCleaned (λ _. true) (λ f. f) (b ∷ []) first s x.infos.items)) c.new.ensures c.clean_sources-session.ensures.cleaned in
+    pends_one bytes first s _ (IfOk-at_ok (λ (x : Cleaned). AreCleaned (λ _. true) (λ f. f) (bytes ∷ []) first s x.infos.items) c.in-Ok.is given) c.requires.room

@@ -24,6 +24,7 @@ returns-in-Ok-clause-answered g c = λ inputs_tell inputs.
       listed = c.store_lines.ensures.listed;
       keeps = c.store_lines.ensures.keeps;
       refused = c.store_lines.ensures.refused;
+      overfull = c.store_lines.ensures.overfull;
       kept = c.store_lines.ensures.kept;
       foreign = c.store_lines.ensures.foreign;
     } in

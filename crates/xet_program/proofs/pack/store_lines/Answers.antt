@@ -1,6 +1,9 @@
 use Rattle.std.proofs.Common.{◌∙◌, arith, refl}
 use Rattle.xet_store_disk.specs.Opening.{contents_of}
+use Rattle.xet_program.specs.Stored.{Records}
+use Rattle.xet_program.specs.internal.Steps.{MakesIn}
 use Rattle.xet_program.specs.internal.Stops.{storing_causes}
+use Rattle.xet_program.proofs.Contents.{never_too_many}
 use Rattle.xet_program.proofs.Folder.{folder_storing, stop_refused, stops_storing}
 use Rattle.xet_program.proofs.Listing.{contents_before, few_before, foreign_same, keeps_folder, keeps_listed, opens_before}
 use Rattle.xet_program.proofs.Making.{are_stored}
@@ -22,9 +25,12 @@ returns-in-Ok-clause-keeps g c =
 pub returns-in-Ok-clause-stored : goal.returns-in-Ok-clause-stored
 returns-in-Ok-clause-stored g c = λ told.
     let here = c.in-Ok.ensures.opened.same_tells ∙ told in
+    let said = c.args.lines.now.files in
+    let first = c.in-Ok.session.store in
+    let after = c.report_lines-session.result.0.store in
     on_ok_both c.report_lines-session.result.1
-    (λ recorded made. are_stored (g.D.Disk.tells c.args.disk) _ _ _ _ _ _ told c.in-Ok.ensures.opened c.recall_sound.ensures c.report_lines-session.ensures.keeps c.into_disk-disk.ensures.files c.args.lines.now.files recorded made)
-    (c.report_lines-session.ensures.answer.recorded here) (c.report_lines-session.ensures.answer.made here)
+    (λ (found : Records first.limits said first.opened after.files × MakesIn first said after) other. are_stored (g.D.Disk.tells c.args.disk) _ _ _ _ _ _ told c.in-Ok.ensures.opened c.recall_sound.ensures c.report_lines-session.ensures.keeps c.into_disk-disk.ensures.files said found.0 found.1 other)
+    (on_ok_both c.report_lines-session.result.1 (λ recorded made. (recorded, made)) (c.report_lines-session.ensures.answer.recorded here) (c.report_lines-session.ensures.answer.made here)) (c.report_lines-session.ensures.answer.other here)
 
 pub returns-in-Ok-clause-kept : goal.returns-in-Ok-clause-kept
 returns-in-Ok-clause-kept g c = λ told.
@@ -68,3 +74,7 @@ returns-in-Ok-clause-frame g c =
       later = omega (arith, later, cause.later, faults);
       rose = λ is. let rose = cause.rose is in omega (arith, later, rose, faults);
     }
+
+pub returns-in-Ok-clause-overfull : goal.returns-in-Ok-clause-overfull
+returns-in-Ok-clause-overfull g c = λ told many.
+    never_too_many _ _ _ _ (opens_before _ _ _ _ _ c.in-Ok.ensures.opened c.in-Ok.ensures.contents (few_before c.in-Ok.session _ c.report_lines-session.ensures.keeps c.recall_invariant.ensures) told) many

@@ -23,7 +23,7 @@ pub returns-in-Clean-clause-answered : goal.returns-in-Clean-clause-answered
 returns-in-Clean-clause-answered g c =
     let from = start (g.I.Source.tells c.args.input.now) (g.I.Source.left c.args.input.now) (g.F.Inputs.tells c.args.inputs.now) (g.F.Inputs.files c.args.inputs.now) c.args.now (g.D.Disk.tells c.args.disk) (g.D.Disk.files c.args.disk) in
     subst (λ (x : Parsed). Answered (Some (asked x)) from (g.D.Disk.files c.clean.result.0) (answer_outcome c.clean.result.1)) (sym c.in-Clean.is)
-    (answered_clean from (g.D.Disk.files c.clean.result.0) (map string_bytes c.in-Clean.names.now) c.clean.result.1 c.clean.ensures.cleaned c.clean.ensures.stop c.clean.ensures.listed c.clean.ensures.keeps c.clean.ensures.refused c.clean.ensures.absent c.clean.ensures.kept c.clean.ensures.foreign)
+    (answered_clean from (g.D.Disk.files c.clean.result.0) (map string_bytes c.in-Clean.names.now) c.clean.result.1 c.clean.ensures.cleaned c.clean.ensures.stop c.clean.ensures.listed c.clean.ensures.keeps c.clean.ensures.refused c.clean.ensures.overfull c.clean.ensures.absent c.clean.ensures.kept c.clean.ensures.foreign)
 
 pub make-requires-after_bounds : goal.make-requires-after_bounds
 make-requires-after_bounds g c = λ lives within.
@@ -34,7 +34,7 @@ returns-in-Make-clause-answered g c =
     let from = start (g.I.Source.tells c.args.input.now) (g.I.Source.left c.args.input.now) (g.F.Inputs.tells c.args.inputs.now) (g.F.Inputs.files c.args.inputs.now) c.args.now (g.D.Disk.tells c.args.disk) (g.D.Disk.files c.args.disk) in
     let new = g.D.Disk.files c.make.result.0 in
     subst (λ (x : Parsed). Answered (Some (asked x)) from new (answer_outcome c.make.result.1)) (sym c.in-Make.is)
-    (answered_make from new c.in-Make.seed c.in-Make.bytes c.make.result.1 c.make.ensures.made c.make.ensures.stop c.make.ensures.listed c.make.ensures.keeps c.make.ensures.refused c.make.ensures.kept c.make.ensures.foreign)
+    (answered_make from new c.in-Make.seed c.in-Make.bytes c.make.result.1 c.make.ensures.made c.make.ensures.stop c.make.ensures.listed c.make.ensures.keeps c.make.ensures.refused c.make.ensures.overfull c.make.ensures.kept c.make.ensures.foreign c.make.ensures.stored)
 
 pub returns-in-Read-clause-answered : goal.returns-in-Read-clause-answered
 returns-in-Read-clause-answered g c =

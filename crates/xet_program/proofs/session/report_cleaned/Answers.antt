@@ -17,4 +17,4 @@ returns-in_err-push_ranges-clause-keeps g c = keeps_then _ _ _ c.in_ok-flush.ens
 
 pub returns-clause-settled : goal.returns-clause-settled
 returns-clause-settled g c =
-    settled_of _ _ _ _ c.in_ok-flush.ensures.none c.in_ok-flush.ensures.flushed c.in_ok-flush.ensures.steps c.in_ok-push_ranges.ensures.unchanged c.in_ok-push_ranges.ensures.recorded
+    settled_of _ _ _ _ c.in_ok-flush.ensures.none c.in_ok-flush.ensures.flushed c.in_ok-flush.ensures.steps c.in_ok-flush.ensures.changes c.in_ok-push_ranges.ensures.unchanged c.in_ok-push_ranges.ensures.recorded

@@ -25,6 +25,7 @@ returns-clause-answer g c =
       flushed = c.recall_sound-2.ensures;
       recorded = c.recall_invariant-2.ensures;
       folder = c.requires.folder;
+      fresh = c.requires.fresh;
       fits = subst AreInRange c.limits.ensures c.recall_invariant.ensures;
       contents = c.requires.contents;
     } in

@@ -13,8 +13,8 @@ pub returns-clause-refused : goal.returns-clause-refused
 returns-clause-refused g c = λ told.
     let files = g.D.Disk.files c.args.disk.now in
     let skip = c.args.skip_on_error in
-    let answer = c.load-answer.result in
-    let read = loaded files c.args.hash (shard_path c.args.folder.now c.args.hash) in
-    let given = subst (λ (p : List ℕ). GivesUnlessDisk (λ (s : MDBShardFile). s) answer (loaded files c.args.hash p)) (c.as_str.ensures.value ∙ c.in_ok-path.ensures.path) (c.load-answer.ensures.exact told) in
+    let answer = c.load_listed-answer.result in
+    let read = loaded files c.args.entry.hash (shard_path c.args.folder.now c.args.entry.hash) in
+    let given = subst (λ (p : List ℕ). GivesUnlessDisk (λ (s : MDBShardFile). s) answer (loaded files c.args.entry.hash p)) c.in_ok-path.ensures.path (c.load_listed-answer.ensures.exact told) in
     subst (λ (r : Result (Option MDBShardFile) StoreError). IfErr r (IsUnread skip read)) (sym (c.unless_vanished.ensures ∙ ap unless_vanished c.unless_skipped.ensures))
     (unread_entry skip answer read given)

@@ -12,6 +12,6 @@ returns-in-Ok-clause-told g c = λ told.
     let entries = c.in_ok-entries.entries.items in
     let sorted = c.by_path.result.items in
     let items =
-    all_listed files folder (g.D.Disk.files c.list_shards.new.disk) entries c.deref.result.now c.new-shards.result.items c.load_listed.new.shards.items frame.same c.deref.ensures.value c.new-shards.ensures.items
+    all_listed files folder (g.D.Disk.files c.list_shards.new.disk) entries c.deref.result.now c.new-shards.result.items c.load_entries.new.shards.items frame.same c.deref.ensures.value c.new-shards.ensures.items
     (c.in-Ok.ensures.told (frame.tells ∙ told)) in
     folder_read files folder entries (c.in_ok-entries.ensures.told told) sorted (subst (λ (xs : List MDBShardFile). IsPermutation xs sorted) items c.by_path.ensures.permutation) c.by_path.ensures.sorted

@@ -9,14 +9,14 @@ use Rattle.xet_shard_directory.proofs.ThroughDisk.{gives_of_disk, gives_of_equal
 use Rattle.xet_shard_directory.proofs.reading.info_of.Goals as goal
 
 pub returns-clause-exact : goal.returns-clause-exact
-returns-clause-exact g c = λ tells f there.
+returns-clause-exact g c = λ tells f there long.
     let files = g.D.Disk.files in
     let answer = c.load_from_reader-answer.result in
     let short = c.was_out_of_memory.result in
     let disk = c.new-reader.ensures.now in
     let bytes : bytes_of (files c.new-reader.result.disk.now) c.new-reader.result.name.now ≡ f.bytes =
     ap (λ d. bytes_of (files d) c.new-reader.result.name.now) disk ∙ ap (bytes_of (files c.args.disk.now)) c.new-reader.ensures.name ∙ ap bytes_if there in
-    let read = gives_of_equal answer _ (c.load_from_reader-answer.ensures.exact (ap g.D.Disk.tells disk ∙ tells)) in
+    let read = gives_of_equal answer _ (c.load_from_reader-answer.ensures.exact (c.new-reader.ensures.observable tells f there long)) in
     let given : GivesUnlessFault (λ (i : MDBShardInfo). i) answer (info_at f.bytes) =
     subst (λ (b : List ℕ). GivesUnlessFault (λ (i : MDBShardInfo). i) answer (info_at b)) bytes read in
     subst (λ (r : Result MDBShardInfo StoreError). GivesUnlessDisk (λ (i : MDBShardInfo). i) r (info_at f.bytes)) (sym c.of_disk.ensures)

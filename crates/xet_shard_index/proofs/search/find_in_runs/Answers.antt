@@ -1,5 +1,5 @@
-use Rattle.std.proofs.Common.{◌-◌, length, sym, arith}
-use Rattle.xet_shard_index.proofs.Lengths.{few_runs, found_here, length_run, not_here, rising_run, steps_all, steps_run}
+use Rattle.std.proofs.Common.{◌-◌, ◌<◌, length, sym, arith}
+use Rattle.xet_shard_index.proofs.Lengths.{digits_run, few_runs, found_here, not_here, rising_run, steps_all, steps_run}
 use Rattle.xet_shard_index.proofs.search.find_in_runs.Goals as goal
 
 pub find_in_run-found-requires : goal.find_in_run-found-requires
@@ -12,11 +12,13 @@ returns-then-is_some-clause-place g c =
 
 pub returns-then-is_some-clause-steps : goal.returns-then-is_some-clause-steps
 returns-then-is_some-clause-steps g c b low =
-    let count = length c.args.runs.now in
-    let here = length_run c.args.runs.now (c.loop-left.left - 1) c.index-runs-left.result c.requires (omega (arith, c.loop-left-test.true, c.loop-left.invariant.within)) in
-    let run = c.find_in_run-found.ensures.steps b (rw c.index-runs-left.is (omega (arith, here, low))) in
-    let next = steps_run b count c.loop-left.left c.args.steps.now c.loop-left.steps c.find_in_run-found.new.steps c.loop-left-test.true run (c.loop-left.invariant.steps b low) in
-    steps_all b count c.find_in_run-found.new.steps c.args.steps.now (few_runs c.args.runs.now b c.requires low) (omega (arith, next))
+    let inside : c.loop-left.left - 1 < length c.args.runs.now = omega (arith, c.loop-left-test.true, c.loop-left.invariant.within) in
+    let few = few_runs c.args.runs.now b c.requires low in
+    let run = c.find_in_run-found.ensures.steps (b - (c.loop-left.left - 1)) (digits_run c.args.runs.now (c.loop-left.left - 1) b c.index-runs-left.result c.requires inside c.index-runs-left.is low) in
+    let next =
+    steps_run b c.loop-left.left c.args.steps.now c.loop-left.steps c.find_in_run-found.new.steps c.loop-left-test.true (omega (arith, few, c.loop-left.invariant.within)) run
+    (c.loop-left.invariant.steps b low) in
+    steps_all b (c.loop-left.left - 1) c.find_in_run-found.new.steps c.args.steps.now next
 
 pub loop-left-preserved : goal.loop-left-preserved
 loop-left-preserved g c = record {
@@ -26,12 +28,12 @@ loop-left-preserved g c = record {
       c.find_in_run-found.result c.find_in_run-found.ensures.place (sym c.if-is_some.ensures) c.loop-left.invariant.same;
   steps =
       λ b low.
-      let here = length_run c.args.runs.now (c.loop-left.left - 1) c.index-runs-left.result c.requires (omega (arith, c.loop-left-test.true, c.loop-left.invariant.within)) in
-      let run = c.find_in_run-found.ensures.steps b (rw c.index-runs-left.is (omega (arith, here, low))) in
-      steps_run b (length c.args.runs.now) c.loop-left.left c.args.steps.now c.loop-left.steps c.find_in_run-found.new.steps c.loop-left-test.true run (c.loop-left.invariant.steps b low);
+      let inside : c.loop-left.left - 1 < length c.args.runs.now = omega (arith, c.loop-left-test.true, c.loop-left.invariant.within) in
+      let few = few_runs c.args.runs.now b c.requires low in
+      let run = c.find_in_run-found.ensures.steps (b - (c.loop-left.left - 1)) (digits_run c.args.runs.now (c.loop-left.left - 1) b c.index-runs-left.result c.requires inside c.index-runs-left.is low) in
+      steps_run b c.loop-left.left c.args.steps.now c.loop-left.steps c.find_in_run-found.new.steps c.loop-left-test.true (omega (arith, few, c.loop-left.invariant.within)) run
+      (c.loop-left.invariant.steps b low);
 }
 
 pub returns-clause-steps : goal.returns-clause-steps
-returns-clause-steps g c b low =
-    let so_far = c.loop-left.invariant.steps b low in
-    steps_all b (length c.args.runs.now) c.loop-left.steps c.args.steps.now (few_runs c.args.runs.now b c.requires low) (omega (arith, so_far))
+returns-clause-steps g c b low = steps_all b c.loop-left.left c.loop-left.steps c.args.steps.now (c.loop-left.invariant.steps b low)

@@ -4,11 +4,11 @@ use Rattle.xet_store.proofs.Last.{IsNoQuery, NoneFrom, last_is, last_none, no_qu
 use Rattle.xet_store.proofs.alone.last_query_of.Goals as goal
 
 pub returns-in-Query : goal.returns-in-Query
-returns-in-Query c = λ before entry older newer hashes reply is calls.
+returns-in-Query c = λ older newer before entry is ends.
     let history = c.args.history.now in
     let at : ℕ = c.loop-at.at - 1 in
     let next : at + 1 ≡ c.loop-at.at = omega (arith, c.loop-at-test.true) in
-    last_is history older newer before entry hashes reply is calls at c.index-history-at.result
+    last_is history older newer before entry is ends at c.index-history-at.result
     (slice_get_read history (length history) at c.index-history-at.result refl (omega (arith, c.loop-at-test.true, c.loop-at.invariant.within)) c.index-history-at.is)
     (λ none. subst IsNoQuery c.in-Query.is none) (subst (NoneFrom history) (sym next) c.loop-at.invariant.none)
 
@@ -25,6 +25,6 @@ loop-at-preserved c =
     }
 
 pub returns : goal.returns
-returns c = λ before entry older newer hashes reply is calls.
+returns c = λ older newer before entry is ends.
     let none : c.loop-at.at ≡ 0 = omega (arith, c.loop-at-test.false) in
-    absurd (last_none c.args.history.now older newer before entry hashes reply is calls (subst (NoneFrom c.args.history.now) none c.loop-at.invariant.none))
+    absurd (last_none c.args.history.now older newer before entry is ends (subst (NoneFrom c.args.history.now) none c.loop-at.invariant.none))

@@ -4,9 +4,9 @@ use Rattle.xet_hash.specs.declared.error.StoreError.{StoreError}
 use Rattle.xet_hash.specs.declared.error.StoreError.TheVariants.{OutOfMemory}
 use Rattle.xet_store.specs.Interface.{IsErrorSince}
 use Rattle.xet_store.specs.Holders.{FollowsAsking}
-use Rattle.xet_clean.specs.Planning.{IsFew, IsFinished}
+use Rattle.xet_clean.specs.Planning.{IsFew, IsFinished, RegistersOnly}
 use Rattle.xet_clean.proofs.Cleaning.{cleaning_bytes, on_err}
-use Rattle.xet_clean.proofs.Finishing.{planned_few}
+use Rattle.xet_clean.proofs.Finishing.{planned_few, planned_only}
 use Rattle.xet_clean.proofs.cleaner.FileCleaner.finish.Goals as goal
 
 pub place_last-requires : goal.place_last-requires
@@ -69,3 +69,20 @@ returns-clause-follows g c =
 pub returns-clause-refused : goal.returns-clause-refused
 returns-clause-refused g c =
     subst (λ a. IsErrorSince (g.S.Stepping.holder c.args.self.deduper.interface.steps) (g.S.Stepping.holder a.steps) c.in-Err.error) (sym c.into_interface.ensures) c.in-Err.ensures.refused
+
+pub returns-in-Ok-clause-own : goal.returns-in-Ok-clause-own
+returns-in-Ok-clause-own g c = λ bytes is.
+    let d = c.args.self.deduper in
+    let e = c.place_last.new.deduper in
+    on_err c.finished.result.1
+    (subst (λ a. RegistersOnly (g.S.Stepping.holder d.start.value.steps) (g.S.Stepping.holder a.steps) bytes) (sym c.finished.ensures.same)
+    (subst (λ a. RegistersOnly (g.S.Stepping.holder a.steps) (g.S.Stepping.holder e.interface.steps) bytes) c.place_last.ensures.same.0
+    (planned_only _ _ _ _ (c.in-Ok.ensures.planned bytes (cleaning_bytes _ _ _ _ _ _ _ _ is)))))
+
+pub returns-clause-own : goal.returns-clause-own
+returns-clause-own g c = λ bytes is.
+    let d = c.args.self.deduper in
+    let e = c.place_last.new.deduper in
+    subst (λ a. RegistersOnly (g.S.Stepping.holder d.start.value.steps) (g.S.Stepping.holder a.steps) bytes) (sym c.into_interface.ensures)
+    (subst (λ a. RegistersOnly (g.S.Stepping.holder a.steps) (g.S.Stepping.holder e.interface.steps) bytes) c.place_last.ensures.same.0
+    (c.in-Err.ensures.own bytes (cleaning_bytes _ _ _ _ _ _ _ _ is)))

@@ -1,15 +1,13 @@
-use Rattle.std.proofs.Common.{◌≡◌, ◌∙◌, ℕ, ◌+◌, ◌*◌, false, List, length, map, ap, subst, sym, arith}
-use Rattle.std.specs.List.{AllByRecursion}
+use Rattle.std.proofs.Common.{◌≡◌, ◌∙◌, ℕ, ◌+◌, ◌*◌, false, List, length, map, ap, subst, sym, arith, inl, refl}
 use Rattle.xet_aggregate.specs.Aggregate.{Aggregate, fits}
 use Rattle.xet_base.specs.theorems.Exits.{exit_with}
 use Rattle.xet_cut.specs.declared.limits.LimitSettings.{LimitSettings}
-use Rattle.xet_dedup_queries.specs.Counting.{HasNext}
 use Rattle.xet_dedup_queries.specs.Registering.{IsDue}
 use Rattle.xet_hash.specs.declared.error.StoreError.TheVariants.{OutOfMemory}
 use Rattle.xet_store.specs.Holders.{Follows, xorb_limits}
 use Rattle.xet_store.specs.theorems.Following.{follows_nothing}
 use Rattle.xet_xorb_chunk.specs.Chunks.{chunk_leaf}
-use Rattle.xet_clean.specs.Closing.{IsAtMost, IsUnclosed}
+use Rattle.xet_clean.specs.Closing.{IsAtMost, IsUnclosed, RegistersFull}
 use Rattle.xet_clean.proofs.Completing.{due_unless_fits, unclosed_after, unclosed_further, unclosed_nothing, unless_memory}
 use Rattle.xet_clean.specs.theorems.Counting.{at_most_more, at_most_nothing}
 use Rattle.xet_clean.proofs.working.Working.join.Goals as goal
@@ -56,8 +54,8 @@ returns-in_err-next-clause-refused g c =
     let a : Aggregate = c.args.self.now.aggregate in
     let h = g.S.Stepping.holder c.args.steps.now in
     let next : List (List ℕ × ℕ) = map chunk_leaf c.args.rest.chunks in
-    exit_with (IsUnclosed (AllByRecursion HasNext) a next h h) _ _ c.from_residual.ensures.1
-    (subst (IsUnclosed (AllByRecursion HasNext) a next h h) (sym c.in_err-next.ensures.memory) (unclosed_nothing (AllByRecursion HasNext) tt a next h))
+    exit_with (IsUnclosed (RegistersFull a next) a next h h) _ _ c.from_residual.ensures.1
+    (subst (IsUnclosed (RegistersFull a next) a next h h) (sym c.in_err-next.ensures.memory) (unclosed_nothing (RegistersFull a next) (inl refl, tt) a next h))
 
 pub returns-in_err-close-clause-refused : goal.returns-in_err-close-clause-refused
 returns-in_err-close-clause-refused g c =
@@ -67,7 +65,7 @@ returns-in_err-close-clause-refused g c =
     let h = g.S.Stepping.holder c.args.steps.now in
     let new = g.S.Stepping.holder c.close.new.steps in
     let unfit : fits s a rest ≡ false = ap (λ (l : LimitSettings). fits l a rest) (sym c.limits.ensures) ∙ sym c.fits.ensures ∙ c.if-not-fits.true in
-    exit_with (IsUnclosed (AllByRecursion HasNext) a (map chunk_leaf rest.chunks) h new) _ _ c.from_residual-in_err-close.ensures.1
+    exit_with (IsUnclosed (RegistersFull a (map chunk_leaf rest.chunks)) a (map chunk_leaf rest.chunks) h new) _ _ c.from_residual-in_err-close.ensures.1
     (unclosed_further s c.take-full.result a rest c.deref.result.now h new _ c.take-full.ensures.taken (c.deref.ensures.value ∙ c.in_ok-next.ensures.leaves ∙ ap (map chunk_leaf) c.chunks.ensures) unfit c.requires.here.1 c.requires.rest.1
     c.in_err-close.ensures.refused)
 
@@ -77,11 +75,11 @@ returns-clause-refused g c =
     let h = g.S.Stepping.holder c.args.steps.now in
     let next : List (List ℕ × ℕ) = map chunk_leaf c.args.rest.chunks in
     let limits : LimitSettings = (g.S.Stepping.holder c.args.steps.now).limits in
-    unless_memory c.merge_in.result (IsUnclosed (AllByRecursion HasNext) a next h (g.S.Stepping.holder c.if-not-fits.steps)) c.merge_in.ensures.memory (elim c.if-not-fits.branch [
-      | then-not-fits+in_ok-next+in_ok-close w ↦ subst (λ s. IsUnclosed (AllByRecursion HasNext) a next h (g.S.Stepping.holder s) OutOfMemory) (sym w.steps-is)
+    unless_memory c.merge_in.result (IsUnclosed (RegistersFull a next) a next h (g.S.Stepping.holder c.if-not-fits.steps)) c.merge_in.ensures.memory (elim c.if-not-fits.branch [
+      | then-not-fits+in_ok-next+in_ok-close w ↦ subst (λ s. IsUnclosed (RegistersFull a next) a next h (g.S.Stepping.holder s) OutOfMemory) (sym w.steps-is)
           (unclosed_further limits w.take-full.result a c.args.rest w.deref.result.now h (g.S.Stepping.holder w.close.new.steps) OutOfMemory w.take-full.ensures.taken
           (w.deref.ensures.value ∙ w.in_ok-next.ensures.leaves ∙ ap (map chunk_leaf) w.chunks.ensures)
           (ap (λ (l : LimitSettings). fits l a c.args.rest) (sym c.limits.ensures) ∙ sym c.fits.ensures ∙ w.if-not-fits.true) c.requires.here.1 c.requires.rest.1
           (unclosed_after w.take-full.result w.deref.result.now h (g.S.Stepping.holder w.close.new.steps) w.in_ok-close.ensures.closes))
-      | else-not-fits w ↦ subst (λ s. IsUnclosed (AllByRecursion HasNext) a next h (g.S.Stepping.holder s) OutOfMemory) (sym w.steps-is) (unclosed_nothing (AllByRecursion HasNext) tt a next h)
+      | else-not-fits w ↦ subst (λ s. IsUnclosed (RegistersFull a next) a next h (g.S.Stepping.holder s) OutOfMemory) (sym w.steps-is) (unclosed_nothing (RegistersFull a next) (inl refl, tt) a next h)
     ])

@@ -19,7 +19,7 @@ returns-in_err-add_file-clause-refused g c =
     exit_of_memory _ _ _ c.from_residual-in_err-add_file.ensures.1 c.in_err-add_file.ensures.memory (λ files.
     complete_refuses _ c.args.file _ _ _ c.requires.new
     (cut_refuses_memory (λ g'. g'.value) files c.args.store.now c.cut_store.new.store c.add_file.new.self c.args.flushed.now.items c.cut_store.new.flushed.items c.args.history.now.items c.cut_store.new.history.items c.cut_store.new.history.items c.args.pass c.num_bytes.result
-    (c.in_ok-cut_store.ensures.steps files) Complete _ c.num_bytes.ensures c.in_err-add_file.ensures.err)
+    (c.in_ok-cut_store.ensures.steps files) Complete _ (λ bad. cc bad) c.num_bytes.ensures c.in_err-add_file.ensures.err)
     (complete_tries_memory (λ g'. g'.value) files c.args.store.now c.cut_store.new.store c.add_file.new.self c.args.flushed.now.items c.cut_store.new.flushed.items c.args.history.now.items c.cut_store.new.history.items c.cut_store.new.history.items c.args.pass c.num_bytes.result
     (c.in_ok-cut_store.ensures.steps files) c.args.file c.requires.new c.num_bytes.ensures c.in_err-add_file.ensures.err))
 

@@ -5,7 +5,8 @@ use Rattle.xet_store.specs.Recorded.{core_of, recorded_state}
 use Rattle.xet_store.specs.Steps.{Steps}
 use Rattle.xet_store.specs.theorems.Changing.{changes_same}
 use Rattle.xet_store.proofs.Changing.{changes_unflushed}
-use Rattle.xet_store.proofs.Moving.{steps_fault, steps_idle, steps_pushed}
+use Rattle.xet_store.proofs.Moving.{flush_idle, steps_fault, steps_idle, steps_pushed}
+use Rattle.xet_store.proofs.Full.{faults_full}
 use Rattle.xet_store.proofs.store.flushing.flush_store.Goals as goal
 
 pub returns-in-Ok-Some-clause-steps : goal.returns-in-Ok-Some-clause-steps
@@ -21,6 +22,7 @@ returns-in-Ok-None-clause-steps g c = λ files.
     record {
       steps = subst (λ (s : State). Steps before (recorded_state s files kept c.args.history.now.items) (flush_entries c.args.pass (core_of before))) (sym (c.in-Ok-None.ensures.idle none).1) (steps_idle before c.args.pass none);
       changes = changes_same [] before (recorded_state c.flush.new.self files kept c.args.history.now.items) (flush_entries c.args.pass (core_of before)) (ap (λ (s : State). s.files) (c.in-Ok-None.ensures.idle none).1);
+      few = λ some. absurd (some (flush_idle before c.args.pass none));
     }
 
 pub returns-in-Err-clause-fault : goal.returns-in-Err-clause-fault
@@ -31,6 +33,7 @@ returns-in-Err-clause-fault g c = λ files.
           c.note_fault.new.history.items c.note_fault.ensures.noted;
       changes = changes_unflushed _ _ u;
       reason = c.in-Err.ensures.reason;
+      full = λ full. let f = c.in-Err.ensures.full full in faults_full files c.args.store.now c.flush.new.self _ _ c.args.pass c.args.kind c.in-Err.error (cc f.0) f.1 c.note_fault.ensures.noted;
     }
 
 pub returns-in-Ok-None-clause-idle : goal.returns-in-Ok-None-clause-idle

@@ -1,4 +1,4 @@
-use Rattle.std.proofs.Common.{◌≡◌, ◌∙◌, ◌∷◌, [], ℕ, List, Some, Bool, true, false, is_ok, map, option_map, refl, rules, ap, subst}
+use Rattle.std.proofs.Common.{◌≡◌, ◌∙◌, ℕ, List, Some, true, false, is_ok, map, option_map, refl, rules, ap, subst}
 use Rattle.xet_folder.specs.Changes.{GoesBy}
 use Rattle.xet_folder.specs.Names.{xorb_path}
 use Rattle.xet_io.specs.Disk.{bytes_at}
@@ -29,7 +29,7 @@ pub returns-in-Err-clause-refused : goal.returns-in-Err-clause-refused
 returns-in-Err-clause-refused g c = λ files.
     register_refuses _ c.args.due.hash c.args.due.leaves c.args.next _ _ _ c.requires.new c.requires.chunks.1
     (cut_refuses_then (λ g'. g'.value) files c.args.store.now c.cut_store.new.store c.store_xorb.new.self c.args.flushed.now.items c.cut_store.new.flushed.items c.args.history.now.items c.cut_store.new.history.items c.note_fault.new.history.items c.args.pass c.num_bytes.result
-    (c.in_ok-cut_store.ensures.steps files) c.in-Err.ensures.keeps c.in-Err.ensures.shards Register _ _ c.num_bytes.ensures c.in-Err.ensures.kept c.in-Err.ensures.reason c.note_fault.ensures.noted)
+    (c.in_ok-cut_store.ensures.steps files) c.in-Err.ensures.keeps c.in-Err.ensures.shards Register _ _ (λ bad. cc bad) c.num_bytes.ensures c.in-Err.ensures.kept c.in-Err.ensures.reason c.note_fault.ensures.noted)
     (register_tries_put (λ g'. g'.value) files c.args.store.now c.cut_store.new.store c.store_xorb.new.self c.args.flushed.now.items c.cut_store.new.flushed.items c.args.history.now.items c.cut_store.new.history.items c.note_fault.new.history.items c.args.pass c.num_bytes.result
     (c.in_ok-cut_store.ensures.steps files) c.in-Err.ensures.keeps c.in-Err.ensures.shards c.args.due.hash c.args.due.leaves c.args.next c.requires.new c.requires.chunks.1 c.num_bytes.ensures c.in-Err.ensures.others)
 
